@@ -1,0 +1,4 @@
+pub mod LittleLaws
+pub mod RoomLaws
+pub mod SameLaws
+pub mod CheckLaws

@@ -1,0 +1,14 @@
+-- `octets::octets2` meets its contract: the array is the list of its bytes, by computation.
+use mathlib.Core.Path.{refl}
+use Rattle.octets.specs.Little.{octets}
+use borrow.Author.Needs.{needs}
+use Rattle.octets.proofs.octets2.Statement.{statement}
+use Rattle.octets.proofs.octets2.Tie as tie
+
+returns : tie.Need-returns
+unfolding octets
+returns c = refl
+
+pub octets2-spec : {M : Type 1} → statement M
+octets2-spec = tie.close (tie.spec
+    (λ c. search needs) (λ c. search needs) returns)

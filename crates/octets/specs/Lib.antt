@@ -1,0 +1,4 @@
+pub mod Little
+pub mod Room
+pub mod Same
+pub mod Checks

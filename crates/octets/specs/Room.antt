@@ -1,0 +1,18 @@
+-- A part of a byte string, and a byte string placed in a lent room.
+use Prim.Native.Nat.{ℕ, _+_}
+use mathlib.Core.List.{List, _++_}
+use lib.Dec.{leb}
+use lib.ListN.{length, take, drop}
+use Rattle.octets.specs.Checks.{pick}
+
+-- the `size` bytes of s from `at` on, or as many of them as there are
+abbrev pub part : List ℕ → ℕ → ℕ → List ℕ
+part s at size = take size (drop at s)
+
+-- d with x over its bytes from `at` on
+abbrev pub over : List ℕ → ℕ → List ℕ → List ℕ
+over d at x = take at d ++ x ++ drop (at + length x) d
+
+-- the room d once x was placed from `at` on: a room where x doesn't fit stays as it was
+unfoldable pub placed : List ℕ → ℕ → List ℕ → List ℕ
+placed d at x = pick (leb (at + length x) (length d)) (over d at x) d

@@ -1,0 +1,147 @@
+// Bytes: numbers read and placed, a part placed in a room, comparison without an early exit.
+//
+// Document 01: "All numbers of ours are little-endian." Every function takes all inputs: what is read past the end of a
+// slice counts as no byte, and what doesn't fit a room isn't placed.
+ghost use mathlib.Core.Path.{_≡_};
+ghost use Rattle.octets.specs.Little.{number, octets};
+ghost use Rattle.octets.specs.Room.{part, placed};
+ghost use Rattle.octets.specs.Same.{same};
+
+// The byte at i, 0 past the end.
+fn byte_at(s: &[u8], i: usize) -> u8
+    ensures { λ r. ⌜ r ≡ number (part (now (s .entry)) i 1) ⌝ }
+{
+    if i < s.len() { s[i] } else { 0 }
+}
+
+// The number in the two bytes from `at` on.
+pub fn u16_at(s: &[u8], at: usize) -> u16
+    ensures { λ r. ⌜ r ≡ number (part (now (s .entry)) at 2) ⌝ }
+{
+    if s.len() < at {
+        return 0;
+    }
+    let t = &s[at..];
+    byte_at(t, 0) as u16 + byte_at(t, 1) as u16 * 256
+}
+
+// The number in the four bytes from `at` on.
+pub fn u32_at(s: &[u8], at: usize) -> u32
+    ensures { λ r. ⌜ r ≡ number (part (now (s .entry)) at 4) ⌝ }
+{
+    if s.len() < at {
+        return 0;
+    }
+    let t = &s[at..];
+    u16_at(t, 0) as u32 + u16_at(t, 2) as u32 * 65536
+}
+
+// The number in the eight bytes from `at` on.
+pub fn u64_at(s: &[u8], at: usize) -> u64
+    ensures { λ r. ⌜ r ≡ number (part (now (s .entry)) at 8) ⌝ }
+{
+    if s.len() < at {
+        return 0;
+    }
+    let t = &s[at..];
+    u32_at(t, 0) as u64 + u32_at(t, 4) as u64 * 4294967296
+}
+
+// Puts x into the room from `at` on; a room where it doesn't fit stays as it was.
+pub fn put(room: &mut [u8], at: usize, x: &[u8])
+    ensures { λ _. ⌜ now (room .exit) ≡ placed (now (room .entry)) at (now (x .entry)) ⌝ }
+{
+    if room.len() < at {
+        return;
+    }
+    if room.len() - at < x.len() {
+        return;
+    }
+    let mut i: usize = 0;
+    while i < x.len() {
+        room[at + i] = x[i];
+        i += 1;
+    }
+}
+
+// The two bytes of n.
+pub fn octets2(n: u16) -> [u8; 2]
+    ensures { λ r. ⌜ r ≡ octets 2 n ⌝ }
+{
+    [(n % 256) as u8, (n / 256 % 256) as u8]
+}
+
+// The four bytes of n.
+pub fn octets4(n: u32) -> [u8; 4]
+    ensures { λ r. ⌜ r ≡ octets 4 n ⌝ }
+{
+    let a = n / 256;
+    let b = a / 256;
+    let c = b / 256;
+    [
+        (n % 256) as u8,
+        (a % 256) as u8,
+        (b % 256) as u8,
+        (c % 256) as u8,
+    ]
+}
+
+// The eight bytes of n.
+pub fn octets8(n: u64) -> [u8; 8]
+    ensures { λ r. ⌜ r ≡ octets 8 n ⌝ }
+{
+    let a = n / 256;
+    let b = a / 256;
+    let c = b / 256;
+    let d = c / 256;
+    let e = d / 256;
+    let f = e / 256;
+    let g = f / 256;
+    [
+        (n % 256) as u8,
+        (a % 256) as u8,
+        (b % 256) as u8,
+        (c % 256) as u8,
+        (d % 256) as u8,
+        (e % 256) as u8,
+        (f % 256) as u8,
+        (g % 256) as u8,
+    ]
+}
+
+// Puts the two bytes of n into the room from `at` on.
+pub fn put_u16(room: &mut [u8], at: usize, n: u16)
+    ensures { λ _. ⌜ now (room .exit) ≡ placed (now (room .entry)) at (octets 2 n) ⌝ }
+{
+    put(room, at, &octets2(n));
+}
+
+// Puts the four bytes of n into the room from `at` on.
+pub fn put_u32(room: &mut [u8], at: usize, n: u32)
+    ensures { λ _. ⌜ now (room .exit) ≡ placed (now (room .entry)) at (octets 4 n) ⌝ }
+{
+    put(room, at, &octets4(n));
+}
+
+// Puts the eight bytes of n into the room from `at` on.
+pub fn put_u64(room: &mut [u8], at: usize, n: u64)
+    ensures { λ _. ⌜ now (room .exit) ≡ placed (now (room .entry)) at (octets 8 n) ⌝ }
+{
+    put(room, at, &octets8(n));
+}
+
+// Whether two byte strings are the same. Only their lengths decide how long it takes: no byte decides a branch.
+pub fn equal(a: &[u8], b: &[u8]) -> bool
+    ensures { λ r. ⌜ r ≡ same (now (a .entry)) (now (b .entry)) ⌝ }
+{
+    if a.len() != b.len() {
+        return false;
+    }
+    let mut differ: u8 = 0;
+    let mut i: usize = 0;
+    while i < a.len() {
+        differ = differ | (a[i] ^ b[i]);
+        i += 1;
+    }
+    differ == 0
+}
