@@ -2,3 +2,4 @@ pub mod LittleLaws
 pub mod RoomLaws
 pub mod SameLaws
 pub mod CheckLaws
+pub mod XorLaws

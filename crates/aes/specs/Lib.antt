@@ -1,0 +1,7 @@
+pub mod Field
+pub mod Sbox
+pub mod State
+pub mod KeyExpansion
+pub mod Cipher
+pub mod Prepared
+pub mod Words
