@@ -1,0 +1,3 @@
+pub mod Gctr
+pub mod Gcm
+pub mod Answers

@@ -1,0 +1,6 @@
+pub mod FieldLaws
+pub mod ShiftLaws
+pub mod WordLaws
+pub mod GhashLaws
+pub mod Padding
+pub mod HashLaws

@@ -1,0 +1,4 @@
+pub mod Field
+pub mod Bytes
+pub mod Ghash
+pub mod Words
