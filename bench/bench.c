@@ -56,7 +56,7 @@ static void settle(void) {
 
 /* ---- ours */
 
-static uint8_t our_key[176];
+static uint8_t our_key[DQ_PREPARED];
 
 static void our_block(const struct packet *p) {
     (void)p;

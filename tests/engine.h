@@ -19,9 +19,12 @@ enum {
 /* One block under a key: FIPS 197. */
 void dq_aes128_encrypt(const uint8_t key[16], const uint8_t block[16], uint8_t out[16]);
 
-/* The same in two steps: the eleven round keys first, then a block under them. */
-void dq_aes128_prepare(const uint8_t key[16], uint8_t out[176]);
-void dq_aes128_encrypt_prepared(const uint8_t prepared[176], const uint8_t block[16],
+/* The bytes of a prepared key: `Prepared` of the crate `aes`. */
+#define DQ_PREPARED 176
+
+/* The same in two steps: a prepared key first, then a block under it. */
+void dq_aes128_prepare(const uint8_t key[16], uint8_t out[DQ_PREPARED]);
+void dq_aes128_encrypt_prepared(const uint8_t prepared[DQ_PREPARED], const uint8_t block[16],
                                 uint8_t out[16]);
 
 /*

@@ -37,14 +37,14 @@ void dq_aes128_encrypt(const uint8_t key[16], const uint8_t block[16], uint8_t o
     peer_block(key, block, out);
 }
 
-void dq_aes128_prepare(const uint8_t key[16], uint8_t out[176]) {
-    memset(out, 0, 176);
+void dq_aes128_prepare(const uint8_t key[16], uint8_t out[DQ_PREPARED]) {
+    memset(out, 0, DQ_PREPARED);
     memcpy(out, key, 16);
     if (fault(FAULT_PREPARED) && key[0] == 0)
         out[15] ^= 1;
 }
 
-void dq_aes128_encrypt_prepared(const uint8_t prepared[176], const uint8_t block[16],
+void dq_aes128_encrypt_prepared(const uint8_t prepared[DQ_PREPARED], const uint8_t block[16],
                                 uint8_t out[16]) {
     peer_block(prepared, block, out);
 }

@@ -488,11 +488,11 @@ static void try_block(const struct block_case *c) {
 static void try_prepared(const struct block_case *c) {
     struct block_case given = *c;
     struct block_result expected, had;
-    uint8_t prepared[GUARD + 176 + GUARD], before[sizeof prepared];
+    uint8_t prepared[GUARD + DQ_PREPARED + GUARD], before[sizeof prepared];
     pattern(prepared, sizeof prepared);
     memcpy(before, prepared, sizeof prepared);
     dq_aes128_prepare(given.key, prepared + GUARD);
-    memcpy(before + GUARD, prepared + GUARD, 176);
+    memcpy(before + GUARD, prepared + GUARD, DQ_PREPARED);
     lay_out_block(c, &expected, &had);
     dq_aes128_encrypt_prepared(prepared + GUARD, given.block, had.bytes + GUARD);
     judge_block(PREPARED, c, &given, &expected, &had);

@@ -8,20 +8,15 @@ use native.Mathlib.Omega.{arith}
 use lib.Bits.{bitXor}
 use lib.ListN.{length, getD, set, take, drop, length-append}
 use lib.Seq.{sets, sets-eq, take-at, length-take-le}
-use Rattle.aes.specs.Field.{xtime}
-use Rattle.aes.specs.Sbox.{sbox}
-use Rattle.aes.specs.KeyExpansion.{nextKey, roundKey, power}
+use Rattle.aes.specs.Field.{xtimes}
+use Rattle.aes.specs.KeyExpansion.{rotWord, subWord, nextKey, roundKey, power}
 use Rattle.aes.specs.Cipher.{roundOf, rounds}
 use Rattle.aes.specs.Prepared.{keys, keyAt}
 use Rattle.aes.specs.Words.{bytesOf, b0, b1, b2, b3}
-use Rattle.aes.proofs.WordLaws.{xorWord, rotWord, xtimeWord, xor-bytes, small, is-small}
-
--- each byte of a word through the S-box
-abbrev sboxWord : List ℕ → List ℕ
-sboxWord w = sbox (getD w 0 0) ∷ sbox (getD w 1 0) ∷ sbox (getD w 2 0) ∷ sbox (getD w 3 0) ∷ []
+use Rattle.aes.proofs.WordLaws.{xorWord, xtimesWord, xor-bytes, small, is-small}
 
 -- the next round key after the words a b c d, where q is d turned and s is q through the S-box
-pub next-bytes : (a b c d q s rc : ℕ) → rc < 256 → bytesOf q ≡ rotWord (bytesOf d) → bytesOf s ≡ sboxWord (bytesOf q)
+pub next-bytes : (a b c d q s rc : ℕ) → rc < 256 → bytesOf q ≡ rotWord (bytesOf d) → bytesOf s ≡ subWord (bytesOf q)
     → bytesOf (bitXor a (bitXor s rc))
     ++ bytesOf (bitXor b (bitXor a (bitXor s rc)))
     ++ bytesOf (bitXor c (bitXor b (bitXor a (bitXor s rc))))
@@ -29,7 +24,7 @@ pub next-bytes : (a b c d q s rc : ℕ) → rc < 256 → bytesOf q ≡ rotWord (
     ≡ nextKey rc (bytesOf a ++ bytesOf b ++ bytesOf c ++ bytesOf d)
 unfolding nextKey
 next-bytes a b c d q s rc h hq hs =
-    let turned : bytesOf s ≡ sboxWord (rotWord (bytesOf d)) = hs ∙ ap sboxWord hq in
+    let turned : bytesOf s ≡ subWord (rotWord (bytesOf d)) = hs ∙ ap subWord hq in
     let first = xor-bytes a (bitXor s rc) ∙ ap (xorWord (bytesOf a)) (xor-bytes s rc ∙ ap₂ xorWord turned (small rc h)) in
     let second = xor-bytes b _ ∙ ap (xorWord (bytesOf b)) first in
     let third = xor-bytes c _ ∙ ap (xorWord (bytesOf c)) second in
@@ -84,12 +79,12 @@ pub key-next : (key k : List ℕ) (rc i : ℕ) → k ≡ roundKey key i → rc �
 unfolding roundKey
 key-next key k rc i e q = ap₂ nextKey q e ∙ ap (roundKey key) (sym (add-one i))
 
-pub power-next : (rc r i : ℕ) → rc ≡ power i → rc < 256 → r < 4294967296 → bytesOf r ≡ xtimeWord (bytesOf rc)
+pub power-next : (rc r i : ℕ) → rc ≡ power i → rc < 256 → r < 4294967296 → bytesOf r ≡ xtimesWord (bytesOf rc)
     → (r ≡ power (i + 1)) × (r < 256)
 unfolding power
 power-next rc r i e h n q =
-    let one : (r ≡ xtime rc) × (r < 256) = is-small r (xtime rc) n (q ∙ ap xtimeWord (small rc h)) in
-    (one .0 ∙ ap xtime e ∙ ap power (sym (add-one i)), one .1)
+    let one : (r ≡ xtimes rc) × (r < 256) = is-small r (xtimes rc) n (q ∙ ap xtimesWord (small rc h)) in
+    (one .0 ∙ ap xtimes e ∙ ap power (sym (add-one i)), one .1)
 
 -- a round more
 pub round-step : (p b s k t : List ℕ) (i : ℕ) → s ≡ rounds (keyAt p) i b → k ≡ keyAt p (i + 1) → t ≡ roundOf s k → t ≡ rounds (keyAt p) (i + 1) b

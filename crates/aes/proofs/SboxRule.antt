@@ -8,8 +8,8 @@ use native.Mathlib.Nat.{add-zero, zero-add, add-suc, suc-add, le-of-suc-le-suc, 
 use native.Mathlib.Omega.{arith}
 use lib.Dec.{T, eqb, eqb→eq}
 use lib.ListN.{length, getD}
-use Rattle.aes.specs.Field.{_•_, product, squares, inverse, turned, affine, sboxRule}
-use Rattle.aes.specs.Sbox.{sbox, table}
+use Rattle.aes.specs.Field.{_•_, product, squares, inverse}
+use Rattle.aes.specs.Sbox.{table, sbox, turned, affine, sboxRule}
 
 abbrev both : Bool → Bool → Bool
 both true b = b

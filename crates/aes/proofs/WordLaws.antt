@@ -7,7 +7,8 @@ use native.Mathlib.Omega.{arith}
 use lib.Bits.{bitAnd, bitXor, xor-shr, xor-mod, and-shr, and-mod, and-mask, and-high, and-le-r, xor-zero-r}
 use lib.ListN.{getD}
 use lib.Pow.{shr-shr, split, low as lowest}
-use Rattle.aes.specs.Field.{xtime, _•_, product}
+use Rattle.aes.specs.Field.{xtimes, _•_, product}
+use Rattle.aes.specs.KeyExpansion.{rotWord}
 use Rattle.aes.specs.Cipher.{mixed}
 use Rattle.aes.specs.Words.{bytesOf, b0, b1, b2, b3, columnMixed}
 
@@ -15,13 +16,9 @@ use Rattle.aes.specs.Words.{bytesOf, b0, b1, b2, b3, columnMixed}
 abbrev pub xorWord : List ℕ → List ℕ → List ℕ
 xorWord x y = bitXor (getD x 0 0) (getD y 0 0) ∷ bitXor (getD x 1 0) (getD y 1 0) ∷ bitXor (getD x 2 0) (getD y 2 0) ∷ bitXor (getD x 3 0) (getD y 3 0) ∷ []
 
--- the bytes of a word, the first last
-abbrev pub rotWord : List ℕ → List ℕ
-rotWord w = getD w 1 0 ∷ getD w 2 0 ∷ getD w 3 0 ∷ getD w 0 0 ∷ []
-
 -- each byte of a word times x
-abbrev pub xtimeWord : List ℕ → List ℕ
-xtimeWord w = xtime (getD w 0 0) ∷ xtime (getD w 1 0) ∷ xtime (getD w 2 0) ∷ xtime (getD w 3 0) ∷ []
+abbrev pub xtimesWord : List ℕ → List ℕ
+xtimesWord w = xtimes (getD w 0 0) ∷ xtimes (getD w 1 0) ∷ xtimes (getD w 2 0) ∷ xtimes (getD w 3 0) ∷ []
 
 -- the byte at bit k
 xor-byte : (x y k : ℕ) → bitXor x y / 2 ^ k % 2 ^ 8 ≡ bitXor (x / 2 ^ k % 2 ^ 8) (y / 2 ^ k % 2 ^ 8)
@@ -119,32 +116,32 @@ reduced w =
     (and-byte w 0x80808080 24 ∙ high (w / 16777216))
     (bit w) (bit (w / 256)) (bit (w / 65536)) (bit (w / 16777216))
 
-pub times-x-bytes : (w : ℕ) → bytesOf (bitXor (bitAnd w 0x7f7f7f7f * 2) (bitAnd w 0x80808080 / 128 * 0x1b)) ≡ xtimeWord (bytesOf w)
+pub times-x-bytes : (w : ℕ) → bytesOf (bitXor (bitAnd w 0x7f7f7f7f * 2) (bitAnd w 0x80808080 / 128 * 0x1b)) ≡ xtimesWord (bytesOf w)
 times-x-bytes w =
     xor-bytes (bitAnd w 0x7f7f7f7f * 2) (bitAnd w 0x80808080 / 128 * 0x1b)
     ∙ ap₂ xorWord (doubled w) (reduced w)
 
 -- the products with {02} and {03}
-two : (b : ℕ) → 0x02 • b ≡ xtime b
+two : (b : ℕ) → 0x02 • b ≡ xtimes b
 unfolding _•_ product
-two b = xor-zero-r (xtime b)
+two b = xor-zero-r (xtimes b)
 
-three : (b : ℕ) → 0x03 • b ≡ bitXor b (xtime b)
+three : (b : ℕ) → 0x03 • b ≡ bitXor b (xtimes b)
 unfolding _•_ product
-three b = ap (bitXor b) (xor-zero-r (xtime b))
+three b = ap (bitXor b) (xor-zero-r (xtimes b))
 
-mixed-byte : (a b c d : ℕ) → bitXor (bitXor (bitXor (xtime a) (bitXor b (xtime b))) c) d ≡ mixed a b c d
+mixed-byte : (a b c d : ℕ) → bitXor (bitXor (bitXor (xtimes a) (bitXor b (xtimes b))) c) d ≡ mixed a b c d
 unfolding mixed
 mixed-byte a b c d = λ t. bitXor (bitXor (bitXor (sym (two a) t) (sym (three b) t)) c) d
 
 -- a column, mixed: x is each byte of w times x, and the others are turned
-pub mix-bytes : (w x q z u v : ℕ) → bytesOf x ≡ xtimeWord (bytesOf w) → bytesOf q ≡ rotWord (bytesOf w) → bytesOf z ≡ rotWord (bytesOf q)
+pub mix-bytes : (w x q z u v : ℕ) → bytesOf x ≡ xtimesWord (bytesOf w) → bytesOf q ≡ rotWord (bytesOf w) → bytesOf z ≡ rotWord (bytesOf q)
     → bytesOf u ≡ rotWord (bytesOf (bitXor w x)) → bytesOf v ≡ rotWord (bytesOf z)
     → bytesOf (bitXor (bitXor (bitXor x u) z) v) ≡ columnMixed (b0 w) (b1 w) (b2 w) (b3 w)
 mix-bytes w x q z u v hx hq hz hu hv =
     let W : List ℕ = bytesOf w in
     let ez : bytesOf z ≡ rotWord (rotWord W) = hz ∙ ap rotWord hq in
-    let eu : bytesOf u ≡ rotWord (xorWord W (xtimeWord W)) = hu ∙ ap rotWord (xor-bytes w x ∙ ap (xorWord W) hx) in
+    let eu : bytesOf u ≡ rotWord (xorWord W (xtimesWord W)) = hu ∙ ap rotWord (xor-bytes w x ∙ ap (xorWord W) hx) in
     let ev : bytesOf v ≡ rotWord (rotWord (rotWord W)) = hv ∙ ap rotWord ez in
     xor-bytes (bitXor (bitXor x u) z) v
     ∙ ap (λ (l : List ℕ). xorWord l (bytesOf v)) (xor-bytes (bitXor x u) z ∙ ap (λ (l : List ℕ). xorWord l (bytesOf z)) (xor-bytes x u))

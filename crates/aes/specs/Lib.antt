@@ -1,6 +1,6 @@
+pub mod State
 pub mod Field
 pub mod Sbox
-pub mod State
 pub mod KeyExpansion
 pub mod Cipher
 pub mod Prepared

@@ -1,8 +1,9 @@
 // AES-128 encryption of one block, FIPS 197: the plain engine, for the smallest box.
 //
 // The state's four columns are held as four words, byte 0 of a column lowest, so that MixColumns works on the four bytes of a
-// column at once. There is no table but the S-box. `prepare` does a key's part of the work once for many blocks; what a
-// prepared key holds is this crate's own affair, and its contract says only that `under` it a block is enciphered as `cipher` says.
+// column at once. There is no table but the S-box. `prepare` does a key's part of the work once for many blocks. Its contract
+// names `prepared`, whose bytes no caller looks into: callers use the law `under-prepared` (proofs/PreparedLaws), that under the
+// prepared key a block is enciphered as `cipher` says.
 mod sbox;
 mod words;
 mod round;

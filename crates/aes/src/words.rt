@@ -2,7 +2,7 @@
 ghost use mathlib.Core.Path.{_≡_};
 ghost use Prim.Native.Nat.{_<_};
 ghost use mathlib.Core.List.{[], _∷_};
-ghost use Rattle.aes.specs.Field.{xtime};
+ghost use Rattle.aes.specs.Field.{xtimes};
 ghost use Rattle.aes.specs.Sbox.{sbox, table};
 ghost use Rattle.aes.specs.Cipher.{addRoundKey};
 ghost use Rattle.aes.specs.Words.{bytes, bytesOf, b0, b1, b2, b3, columnMixed};
@@ -63,7 +63,7 @@ pub(crate) fn add(x: Words, y: Words) -> Words
 
 // Each byte of a word times x, all four at once.
 pub(crate) fn times_x(w: u32) -> u32
-    ensures { λ r. ⌜ bytesOf r ≡ xtime (b0 w) ∷ xtime (b1 w) ∷ xtime (b2 w) ∷ xtime (b3 w) ∷ [] ⌝ }
+    ensures { λ r. ⌜ bytesOf r ≡ xtimes (b0 w) ∷ xtimes (b1 w) ∷ xtimes (b2 w) ∷ xtimes (b3 w) ∷ [] ⌝ }
 {
     ((w & 0x7f7f7f7f) * 2) ^ ((w & 0x80808080) / 128 * 0x1b)
 }

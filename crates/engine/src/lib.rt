@@ -3,11 +3,12 @@
 // Each function hands its answer out through what the caller lends. The number is document 01's: 0 for done, 7 for a room
 // that is too short, 8 for a wrong tag; a refusal writes nothing but the count of blocks.
 ghost use mathlib.Core.Path.{_≡_};
+ghost use Rattle.octets.specs.Room.{fits};
 ghost use Rattle.aes.specs.Cipher.{cipher};
 ghost use Rattle.aes.specs.Prepared.{prepared, under};
 ghost use Rattle.gcm.specs.Gcm.{seal, open'};
-ghost use Rattle.gcm.specs.Answers.{fits, sealing, roomSealed, opening, roomOpened};
-ghost use Rattle.engine.specs.Numbers.{sealNumber, sealTag, openNumber, openBlocks};
+ghost use Rattle.gcm.specs.Answers.{sealing, roomSealed, sealNumber, opening, roomOpened, openNumber, openBlocks};
+ghost use Rattle.engine.specs.Numbers.{sealTag};
 
 const DONE: u8 = 0;
 
@@ -25,7 +26,7 @@ pub extern "C" fn dq_aes128_encrypt(key: &[u8; 16], block: &[u8; 16], out: &mut 
 
 // out := the prepared key
 #[no_mangle]
-pub extern "C" fn dq_aes128_prepare(key: &[u8; 16], out: &mut [u8; 176])
+pub extern "C" fn dq_aes128_prepare(key: &[u8; 16], out: &mut aes::Prepared)
     ensures { λ _. ⌜ now (out .exit) ≡ prepared (now (key .entry)) ⌝ }
 {
     *out = aes::prepare(*key);
@@ -33,7 +34,11 @@ pub extern "C" fn dq_aes128_prepare(key: &[u8; 16], out: &mut [u8; 176])
 
 // out := the encryption of block under a prepared key
 #[no_mangle]
-pub extern "C" fn dq_aes128_encrypt_prepared(p: &[u8; 176], block: &[u8; 16], out: &mut [u8; 16])
+pub extern "C" fn dq_aes128_encrypt_prepared(
+    p: &aes::Prepared,
+    block: &[u8; 16],
+    out: &mut [u8; 16],
+)
     ensures { λ _. ⌜ now (out .exit) ≡ under (now (p .entry)) (now (block .entry)) ⌝ }
 {
     *out = aes::encrypt_prepared(p, *block);

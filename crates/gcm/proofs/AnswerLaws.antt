@@ -8,7 +8,7 @@ use native.Mathlib.Omega.{arith}
 use borrow.Author.Tests.{le-leb, lt-leb}
 use lib.ListN.{length, take, drop, length-append}
 use lib.Seq.{take-at, drop-at}
-use Rattle.octets.specs.Room.{placed}
+use Rattle.octets.specs.Room.{placed, fits}
 use Rattle.octets.specs.Same.{same}
 use Rattle.octets.proofs.RoomLaws.{placed-start}
 use Rattle.aes.specs.Cipher.{cipher}
@@ -18,7 +18,7 @@ use Rattle.aes.proofs.CipherLaws.{cipher-length}
 use Rattle.ghash.specs.Ghash.{blocksIn}
 use Rattle.gcm.specs.Gctr.{Out, inc32, gctr}
 use Rattle.gcm.specs.Gcm.{zeros, subkey, j0, tagOf, Sealed, seal, Opened, fail, plain, openIf, openUnder, open'}
-use Rattle.gcm.specs.Answers.{fits, atStart, sealing, roomSealed, opening, roomOpened}
+use Rattle.gcm.specs.Answers.{sealing, roomSealed, opening, roomOpened}
 use Rattle.gcm.specs.declared.Sealing.{Sealing}
 use Rattle.gcm.specs.declared.Opening.{Opening}
 use Rattle.gcm.specs.declared.Opening.the-variants.{Short, Fail, Plain}

@@ -62,6 +62,18 @@ pub gctr-count : (ciph : List ℕ → List ℕ) (icb x : List ℕ) → length (g
 unfolding gctr
 gctr-count ciph icb x = length-counters icb (blocksIn (length x))
 
+-- the blocks enciphered for a text in two parts, the first of whole blocks: those of both, one list after the other
+pub gctr-append-blocks : (ciph : List ℕ → List ℕ) (iv x y : List ℕ) (n k : ℕ) → length iv ≡ 12 → n < 2 ^ 32 → length x ≡ 16 * k
+    → gctr ciph (counter iv n) (x ++ y) .enciphered ≡ gctr ciph (counter iv n) x .enciphered ++ gctr ciph (counter iv ((n + k) % 2 ^ 32)) y .enciphered
+unfolding gctr blocksIn
+gctr-append-blocks ciph iv x y n k e h l =
+    let m : ℕ = blocksIn (length y) in
+    let all : blocksIn (length (x ++ y)) ≡ k + m = omega (arith, length-append x y) in
+    let first : blocksIn (length x) ≡ k = omega arith in
+    ap (counters (counter iv n)) all
+    ∙ counters-append iv e k m n h
+    ∙ ap (λ (j : ℕ). counters (counter iv n) j ++ counters (counter iv ((n + k) % 2 ^ 32)) m) (sym first)
+
 -- ---- the stream, for a cipher whose blocks are sixteen bytes long
 
 module _ (ciph : List ℕ → List ℕ) (ciph-16 : (b : List ℕ) → length (ciph b) ≡ 16) where
@@ -162,12 +174,9 @@ module _ (ciph : List ℕ → List ℕ) (ciph-16 : (b : List ℕ) → length (ci
       → gctr ciph (counter iv n) (x ++ y) .bytes ≡ gctr ciph (counter iv n) x .bytes ++ gctr ciph (counter iv ((n + k) % 2 ^ 32)) y .bytes
   unfolding gctr blocksIn
   gctr-append iv x y n k e h l =
-      let S : List ℕ = stream ciph (counters (counter iv n) k) in
-      let T : List ℕ = stream ciph (counters (counter iv ((n + k) % 2 ^ 32)) (blocksIn (length y))) in
-      let all : blocksIn (length (x ++ y)) ≡ k + blocksIn (length y) = omega (arith, length-append x y) in
-      let first : blocksIn (length x) ≡ k = omega arith in
-      ap (λ (m : ℕ). xors (x ++ y) (stream ciph (counters (counter iv n) m))) all
-      ∙ ap (λ (bs : List (List ℕ)). xors (x ++ y) (stream ciph bs)) (counters-append iv e k (blocksIn (length y)) n h)
-      ∙ ap (xors (x ++ y)) (stream-append (counters (counter iv n) k) (counters (counter iv ((n + k) % 2 ^ 32)) (blocksIn (length y))))
-      ∙ xors-parts x S y T (l ∙ sym (length-stream (counters (counter iv n) k) ∙ ap (λ (m : ℕ). 16 * m) (length-counters (counter iv n) k)))
-      ∙ ap (λ (m : ℕ). xors x (stream ciph (counters (counter iv n) m)) ++ xors y T) (sym first)
+      let C : List (List ℕ) = counters (counter iv n) (blocksIn (length x)) in
+      let D : List (List ℕ) = counters (counter iv ((n + k) % 2 ^ 32)) (blocksIn (length y)) in
+      let whole : length x ≡ length (stream ciph C) = omega (arith, length-stream C, length-counters (counter iv n) (blocksIn (length x))) in
+      ap (λ (bs : List (List ℕ)). xors (x ++ y) (stream ciph bs)) (gctr-append-blocks ciph iv x y n k e h l)
+      ∙ ap (xors (x ++ y)) (stream-append C D)
+      ∙ xors-parts x (stream ciph C) y (stream ciph D) whole

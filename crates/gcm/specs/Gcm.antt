@@ -62,6 +62,6 @@ openUnder ciph h bs iv a c t =
     let t' : Out = tagOf ciph h iv a c in
     openIf (same (t' .bytes) t) (bs ++ t' .enciphered) (gctr ciph (inc32 (j0 iv)) c)
 
--- algorithm 5: GCM-AD_K (IV, C, A, T)
+-- algorithm 5: GCM-AD_K (IV, C, A, T). It has a prime since the language keeps the word `open`
 unfoldable pub open' : (List ℕ → List ℕ) → List ℕ → List ℕ → List ℕ → List ℕ → Opened
 open' ciph iv a c t = openUnder ciph (subkey ciph) (zeros ∷ []) iv a c t

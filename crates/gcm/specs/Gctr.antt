@@ -1,4 +1,5 @@
--- SP 800-38D, sections 6.2 and 6.5: inc_32 and GCTR, on bytes. CIPH_K is given as a function of a block, `ciph`.
+-- SP 800-38D, sections 6.2 and 6.5: inc_32 and GCTR, on bytes. CIPH_K is given as a function of a block, `ciph`,
+-- that gives sixteen bytes for each block: the laws ask for it, and of AES it is `cipher-length`.
 use Prim.Native.Nat.{ℕ, zero, suc, _+_, _%_, _^_}
 use mathlib.Core.List.{List, [], _∷_, _++_}
 use lib.ListN.{length, take}

@@ -8,11 +8,12 @@ pub use gctr::crypt;
 use crate::gctr::blocks_in;
 
 ghost use mathlib.Core.Path.{_≡_};
+ghost use Rattle.octets.specs.Room.{fits};
 ghost use Rattle.octets.specs.Same.{same};
 ghost use Rattle.aes.specs.Cipher.{cipher};
 ghost use Rattle.aes.specs.Prepared.{under};
 ghost use Rattle.gcm.specs.Gcm.{tagOf, sealUnder, seal, open'};
-ghost use Rattle.gcm.specs.Answers.{fits, sealing, roomSealed, opening, roomOpened};
+ghost use Rattle.gcm.specs.Answers.{sealing, roomSealed, opening, roomOpened};
 
 // What `seal` answers: whether the room holds the text; the tag and how many blocks were enciphered, 0s where it doesn't.
 pub struct Sealing {

@@ -28,7 +28,7 @@ ghashFrom h y (x ∷ xs) = ghashFrom h (dot (bitXor y x) h) xs
 unfoldable pub ghash : ℕ → List ℕ → ℕ
 ghash h xs = ghashFrom h 0 xs
 
--- [len (S)]_64, in bits. The standard allows lengths below 2^64 bits
+-- [len (S)]_64, in bits. The standard's bounds are below 2^64 bits for A and below 2^39 - 255 bits for the text
 abbrev pub lenBits : List ℕ → ℕ
 lenBits s = 8 * length s % 2 ^ 64
 

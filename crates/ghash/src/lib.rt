@@ -1,6 +1,6 @@
 // GHASH of SP 800-38D, sections 6.3 and 6.4, as section 7.1 uses it: the plain engine, for the smallest box.
 //
-// There is no table, no byte of the subkey or of the data decides a branch or an index, and only the lengths decide the time.
+// There is no table. In this source no byte decides a branch or an index.
 mod field;
 mod blocks;
 

@@ -1,9 +1,9 @@
 -- Ordered checks: what a table's answer says of its rows, and what the answers of stages say of theirs.
 -- `tests` closes a need that asks how a test comes out, and `staged` one that asks for the answer of stages.
 use mathlib.Core.Path.{_≡_, refl, sym}
-use mathlib.Core.Logic.{_≢_}
+use mathlib.Core.Logic.{_≢_, inl, inr}
 use mathlib.Core.Bool.{Bool, true, false, _&&_, true≢false, false≢true}
-use mathlib.Core.List.{List, [], _∷_}
+use mathlib.Core.List.{List, [], _∷_, _++_}
 use Prim.Native.Nat.{ℕ, zero, suc}
 use native.Mathlib.Omega.{arith}
 use borrow.Author.Needs.{needs}
@@ -47,13 +47,26 @@ of-passed ((n when false) ∷ rs) h = of-passed rs (h .1)
 -- a table refuses with the number of the first row whose test holds
 pub first-of : (n : ℕ) (rs : List Row) → refusal rs ≡ suc n → First (suc n) rs
 first-of n [] e = omega arith
-first-of n ((m when true) ∷ rs) e = sym e
-first-of n ((m when false) ∷ rs) e = first-of n rs e
+first-of n ((m when true) ∷ rs) e = inl (refl, sym e)
+first-of n ((m when false) ∷ rs) e = inr (refl, first-of n rs e)
 
 pub of-first : (n : ℕ) (rs : List Row) → First n rs → refusal rs ≡ n
 of-first n [] h = absurd h
-of-first n ((m when true) ∷ rs) h = sym h
-of-first n ((m when false) ∷ rs) h = of-first n rs h
+of-first n ((m when true) ∷ rs) (inl h) = sym (h .1)
+of-first n ((m when true) ∷ rs) (inr h) = absurd (true≢false (h .0))
+of-first n ((m when false) ∷ rs) (inl h) = absurd (false≢true (h .0))
+of-first n ((m when false) ∷ rs) (inr h) = of-first n rs (h .1)
+
+-- a table in two parts answers as two stages
+pub refusal-append : (rs qs : List Row) → numbered rs ≡ true → refusal (rs ++ qs) ≡ (refusal rs then refusal qs)
+refusal-append [] qs h = refl
+refusal-append ((zero when t) ∷ rs) qs h = absurd (false≢true h)
+refusal-append ((suc n when true) ∷ rs) qs h = refl
+refusal-append ((suc n when false) ∷ rs) qs h = refusal-append rs qs h
+
+pub isZero-true : (n : ℕ) → isZero n ≡ true → n ≡ 0
+isZero-true zero e = refl
+isZero-true (suc n) e = absurd (false≢true e)
 
 -- what stands before decides, whatever comes after
 pub then-some : (a b : ℕ) → a ≢ 0 → (a then b) ≡ a
@@ -67,6 +80,15 @@ then-none (suc a) b h = absurd (omega arith)
 pub then-stops : (a b c : ℕ) → isZero a ≡ false → (a then b) ≡ (a then c)
 then-stops zero b c e = absurd (true≢false e)
 then-stops (suc a) b c e = refl
+
+pub then-nonzero : (a b : ℕ) → isZero a ≡ false → isZero (a then b) ≡ false
+then-nonzero zero b e = absurd (true≢false e)
+then-nonzero (suc a) b e = refl
+
+-- stages accept where each of them does
+pub then-passed : (a b : ℕ) → (a then b) ≡ 0 → (a ≡ 0) × (b ≡ 0)
+then-passed zero b e = (refl, e)
+then-passed (suc a) b e = absurd (omega arith)
 
 -- the answer n of a stage a, and m of what comes after: code that returns early, and code that goes on
 pub then-stop : (n a b : ℕ) → n ≡ a → n ≢ 0 → n ≡ (a then b)

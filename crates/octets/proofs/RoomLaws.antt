@@ -8,14 +8,25 @@ use native.Mathlib.Nat.{zero-add, suc-add}
 use native.Mathlib.Omega.{arith}
 use borrow.Author.Tests.{le-leb, lt-leb, leb-true, leb-false}
 use lib.Dec.{leb}
-use lib.ListN.{length, take, drop, length-drop}
+use lib.ListN.{length, take, drop, length-drop, drop-of-length-le}
 use lib.Seq.{take-all, take-length, take-nil, take-take, drop-drop, drop-at, take-append-le, length-take-le, paste, length-paste, take-paste, drop-paste}
 use Rattle.octets.specs.Checks.{pick}
-use Rattle.octets.specs.Room.{part, over, placed}
+use Rattle.octets.specs.Room.{part, over, placed, atStart}
 
 -- the rest of a slice that is lent as `&s[at..]`
 pub part-rest : (s : List ℕ) (at : ℕ) → part s at (length s - at) ≡ drop at s
 part-rest s at = take-all (length s - at) (drop at s) (omega (arith, length-drop at s))
+
+-- past the end there is none
+pub part-past : (s : List ℕ) (at size : ℕ) → length s ≤ at → part s at size ≡ []
+part-past s at size h = ap (take size) (drop-of-length-le s {i = at} h) ∙ take-nil size
+
+-- where the slice ends first, a part is the rest
+pub part-end : (s : List ℕ) (at size : ℕ) → length s - at ≤ size → part s at size ≡ drop at s
+part-end s at size h = take-all size (drop at s) (omega (arith, length-drop at s))
+
+pub length-part : (s : List ℕ) (at size : ℕ) → at + size ≤ length s → length (part s at size) ≡ size
+length-part s at size h = length-take-le size (drop at s) (omega (arith, length-drop at s))
 
 -- a part, from the bytes up to its end
 pub part-take : (at size : ℕ) (s : List ℕ) → part s at size ≡ drop at (take (at + size) s)
@@ -79,5 +90,5 @@ module _ (d : List ℕ) (at : ℕ) (x : List ℕ) where
   pub part-after : (j k : ℕ) → at + length x ≤ j → part (placed d at x) j k ≡ part d j k
   part-after j k b = ap (take k) (drop-after j b)
 
-pub placed-start : (d x : List ℕ) → length x ≤ length d → placed d 0 x ≡ x ++ drop (length x) d
+pub placed-start : (d x : List ℕ) → length x ≤ length d → placed d 0 x ≡ atStart x d
 placed-start d x h = rw (placed-fits d 0 x (omega arith), zero-add)

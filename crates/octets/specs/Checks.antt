@@ -2,6 +2,7 @@
 -- `number when test` says so in the document's own order. It refuses with the number of the first row whose test holds, and
 -- answers 0 if none does.
 use mathlib.Core.Path.{_≡_}
+use mathlib.Core.Logic.{_⊎_}
 use mathlib.Core.Bool.{Bool, true, false, not, _&&_}
 use mathlib.Core.List.{List, [], _∷_}
 use Prim.Native.Nat.{ℕ, zero, suc}
@@ -45,8 +46,7 @@ abbrev pub Each : (ℕ → Type 0) → List Row → Type 0
 Each P [] = Unit
 Each P ((n when t) ∷ rs) = P n × Each P rs
 
--- row n is the first whose test holds: what makes a table answer n
+-- m is the number of the first row whose test holds: what makes a table answer m
 abbrev pub First : ℕ → List Row → Type 0
 First m [] = ⊥
-First m ((n when true) ∷ rs) = m ≡ n
-First m ((n when false) ∷ rs) = First m rs
+First m ((n when t) ∷ rs) = ((t ≡ true) × (m ≡ n)) ⊎ ((t ≡ false) × First m rs)

@@ -3,31 +3,45 @@
 // Document 01: "All numbers of ours are little-endian." Every function takes all inputs: what is read past the end of a
 // slice counts as no byte, and what doesn't fit a room isn't placed.
 ghost use mathlib.Core.Path.{_≡_};
-ghost use Rattle.octets.specs.Little.{number, octets};
-ghost use Rattle.octets.specs.Room.{part, placed};
+ghost use Rattle.octets.specs.Little.{octets};
+ghost use Rattle.octets.specs.Room.{part, numberAt, placed};
 ghost use Rattle.octets.specs.Same.{same};
 
-// The byte at i, 0 past the end.
-fn byte_at(s: &[u8], i: usize) -> u8
-    ensures { λ r. ⌜ r ≡ number (part (now (s .entry)) i 1) ⌝ }
+// The `size` bytes of s from `at` on, or as many of them as there are.
+pub fn part(s: &[u8], at: usize, size: usize) -> &[u8]
+    ensures { λ r. ⌜ now r ≡ part (now (s .entry)) at size ⌝ }
 {
-    if i < s.len() { s[i] } else { 0 }
+    let n = s.len();
+    if n <= at {
+        return &s[n..];
+    }
+    if n - at <= size {
+        return &s[at..];
+    }
+    &s[at..at + size]
+}
+
+// The byte at `at`, 0 past the end.
+pub fn u8_at(s: &[u8], at: usize) -> u8
+    ensures { λ r. ⌜ r ≡ numberAt (now (s .entry)) at 1 ⌝ }
+{
+    if at < s.len() { s[at] } else { 0 }
 }
 
 // The number in the two bytes from `at` on.
 pub fn u16_at(s: &[u8], at: usize) -> u16
-    ensures { λ r. ⌜ r ≡ number (part (now (s .entry)) at 2) ⌝ }
+    ensures { λ r. ⌜ r ≡ numberAt (now (s .entry)) at 2 ⌝ }
 {
     if s.len() < at {
         return 0;
     }
     let t = &s[at..];
-    byte_at(t, 0) as u16 + byte_at(t, 1) as u16 * 256
+    u8_at(t, 0) as u16 + u8_at(t, 1) as u16 * 256
 }
 
 // The number in the four bytes from `at` on.
 pub fn u32_at(s: &[u8], at: usize) -> u32
-    ensures { λ r. ⌜ r ≡ number (part (now (s .entry)) at 4) ⌝ }
+    ensures { λ r. ⌜ r ≡ numberAt (now (s .entry)) at 4 ⌝ }
 {
     if s.len() < at {
         return 0;
@@ -38,7 +52,7 @@ pub fn u32_at(s: &[u8], at: usize) -> u32
 
 // The number in the eight bytes from `at` on.
 pub fn u64_at(s: &[u8], at: usize) -> u64
-    ensures { λ r. ⌜ r ≡ number (part (now (s .entry)) at 8) ⌝ }
+    ensures { λ r. ⌜ r ≡ numberAt (now (s .entry)) at 8 ⌝ }
 {
     if s.len() < at {
         return 0;
@@ -130,7 +144,7 @@ pub fn put_u64(room: &mut [u8], at: usize, n: u64)
     put(room, at, &octets8(n));
 }
 
-// Whether two byte strings are the same. Only their lengths decide how long it takes: no byte decides a branch.
+// Whether two byte strings are the same. In this source no byte decides a branch or an index.
 pub fn equal(a: &[u8], b: &[u8]) -> bool
     ensures { λ r. ⌜ r ≡ same (now (a .entry)) (now (b .entry)) ⌝ }
 {

@@ -1,5 +1,5 @@
-// Runs published examples of AES-128 and of GCM over it, and prints what comes out. The file that this must equal was
-// written from the published results.
+// Runs published examples of AES-128 and of GCM over it, and prints what comes out. It must equal the file `stdout`: the
+// encryptions, ciphertexts and tags there are the published ones; the other lines follow from them.
 //
 // The examples are of FIPS 197, appendices B and C.1; of McGrew and Viega, "The Galois/Counter Mode of Operation (GCM)",
 // appendix B, test cases 1 to 4; and of NIST's validation set CAVP, gcmEncryptExtIV128.rsp.

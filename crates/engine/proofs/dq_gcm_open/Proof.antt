@@ -1,7 +1,7 @@
 -- `engine::dq_gcm_open` meets its contract: each arm of the match hands out its variant's number and count.
 use borrow.Author.Needs.{needs}
 use mathlib.Core.Path.{sym, ap, _∙_}
-use Rattle.engine.specs.Numbers.{openNumber, openBlocks}
+use Rattle.gcm.specs.Answers.{openNumber, openBlocks}
 use Rattle.engine.proofs.dq_gcm_open.Statement.{statement}
 use Rattle.engine.proofs.dq_gcm_open.Tie as tie
 

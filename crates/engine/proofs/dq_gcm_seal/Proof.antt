@@ -5,9 +5,9 @@ use mathlib.Core.Bool.{Bool, true, false}
 use mathlib.Core.List.{List}
 use Prim.Native.Nat.{ℕ}
 use Rattle.gcm.specs.Gcm.{Sealed}
-use Rattle.gcm.specs.Answers.{sealing}
+use Rattle.gcm.specs.Answers.{sealing, sealNumber}
 use Rattle.gcm.specs.declared.Sealing.{Sealing}
-use Rattle.engine.specs.Numbers.{sealNumber, sealTag}
+use Rattle.engine.specs.Numbers.{sealTag}
 use Rattle.engine.proofs.dq_gcm_seal.Statement.{statement}
 use Rattle.engine.proofs.dq_gcm_seal.Tie as tie
 

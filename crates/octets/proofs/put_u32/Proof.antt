@@ -1,10 +1,16 @@
 -- `octets::put_u32` meets its contract: by what `put` ensures of the bytes that `octets4` gives.
 use borrow.Author.Needs.{needs}
+use mathlib.Core.Path.{ap, _∙_}
+use Rattle.octets.specs.Room.{placed}
 use Rattle.octets.proofs.put_u32.Statement.{statement}
 use Rattle.octets.proofs.put_u32.Tie as tie
 
 returns : tie.Need-returns
-returns c = cc
+returns c =
+    let u = c .before .before in
+    let o = u .before .before in
+    let a = o .before .before .before .args in
+    u .put .ensures ∙ ap (placed (a .room .now) (a .at)) (o .octets4 .ensures)
 
 pub put-u32-spec : {M : Type 1} → statement M
 put-u32-spec =

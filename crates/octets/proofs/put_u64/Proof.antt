@@ -1,10 +1,16 @@
 -- `octets::put_u64` meets its contract: by what `put` ensures of the bytes that `octets8` gives.
 use borrow.Author.Needs.{needs}
+use mathlib.Core.Path.{ap, _∙_}
+use Rattle.octets.specs.Room.{placed}
 use Rattle.octets.proofs.put_u64.Statement.{statement}
 use Rattle.octets.proofs.put_u64.Tie as tie
 
 returns : tie.Need-returns
-returns c = cc
+returns c =
+    let u = c .before .before in
+    let o = u .before .before in
+    let a = o .before .before .before .args in
+    u .put .ensures ∙ ap (placed (a .room .now) (a .at)) (o .octets8 .ensures)
 
 pub put-u64-spec : {M : Type 1} → statement M
 put-u64-spec =

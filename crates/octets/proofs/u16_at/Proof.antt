@@ -12,7 +12,7 @@ returns c = let a = c .before .before .args in sym (number-past (a .s .now) (a .
 returns-2 : tie.Need-returns-2
 returns-2 c =
     let a = c .before .before .before .before .before .args in
-    number-two (a .s .now) (a .at) 1 1 (c .before .byte-at .result) (c .byte-at2 .result) (c .before .byte-at .ensures) (c .byte-at2 .ensures)
+    number-two (a .s .now) (a .at) 1 1 (c .before .u8-at .result) (c .u8-at2 .result) (c .before .u8-at .ensures) (c .u8-at2 .ensures)
 
 pub u16-at-spec : {M : Type 1} → statement M
 u16-at-spec =

@@ -1,0 +1,71 @@
+-- A test that passes at each number below n, a number from 1 to another, what holds of a choice, and what `if !f(x)` tells of what
+-- f's contract says.
+use mathlib.Core.Path.{_≡_, refl, sym, _∙_}
+use mathlib.Core.Bool.{Bool, true, false, not, _&&_}
+use mathlib.Core.Logic.{⊎-elim}
+use Prim.Native.Nat.{ℕ, zero, suc, _+_, _≤_, _<_}
+use native.Mathlib.Nat.{eq-or-lt-of-le, le-of-suc-le-suc, not-suc-le-zero}
+use native.Mathlib.Numerals.{add-one}
+use native.Mathlib.Omega.{arith}
+use lib.Dec.{leb}
+use borrow.Author.Tests.{le-leb, leb-true, not-true, not-false}
+use Rattle.octets.specs.Checks.{pick}
+use Rattle.octets.proofs.CheckLaws.{and-left, and-right, and-both}
+use Rattle.state.specs.Sound.{allBelow, within}
+
+pub no : {r b : Bool} → r ≡ b → not r ≡ true → b ≡ false
+no {r} e t = sym e ∙ not-true r t
+
+pub yes : {r b : Bool} → r ≡ b → not r ≡ false → b ≡ true
+yes {r} e t = sym e ∙ not-false r t
+
+pub pick-ind : {A : Type 0} {a b : A} (P : A → Type 0) (t : Bool) → (t ≡ true → P a) → P b → P (pick t a b)
+pick-ind P true f g = f refl
+pick-ind P false f g = g
+
+and-false : (a b : Bool) → b ≡ false → (a && b) ≡ false
+and-false true b e = e
+and-false false b e = refl
+
+module _ (f : ℕ → Bool) where
+  pub below-all : (n : ℕ) → allBelow f n ≡ true → (i : ℕ) → i < n → f i ≡ true
+  unfolding allBelow
+  below-all zero h i l = absurd (not-suc-le-zero l)
+  below-all (suc n) h i l =
+      ⊎-elim (λ e. rw e (and-right (allBelow f n) (f n) h)) (below-all n (and-left (allBelow f n) (f n) h) i)
+      (eq-or-lt-of-le (le-of-suc-le-suc l))
+
+  pub all-below : (n : ℕ) → ((i : ℕ) → i < n → f i ≡ true) → allBelow f n ≡ true
+  unfolding allBelow
+  all-below zero h = refl
+  all-below (suc n) h = and-both (allBelow f n) (f n) (all-below n (λ i l. h i (omega arith))) (h n (omega arith))
+
+  fails : (n i : ℕ) → i < n → f i ≡ false → allBelow f n ≡ false
+  unfolding allBelow
+  fails zero i l e = absurd (not-suc-le-zero l)
+  fails (suc n) i l e =
+      ⊎-elim (λ q. and-false (allBelow f n) (f n) (rw q at e)) (λ m. rw (fails n i m e)) (eq-or-lt-of-le (le-of-suc-le-suc l))
+
+  -- a loop that returns at `if !f(i)`: it starts, it passes i, or it returns there
+  pub all-none : allBelow f 0 ≡ true
+  unfolding allBelow
+  all-none = refl
+
+  pub all-more : (i : ℕ) {r : Bool} → allBelow f i ≡ true → r ≡ f i → not r ≡ false → allBelow f (i + 1) ≡ true
+  unfolding allBelow
+  all-more i h e t = rw add-one (and-both (allBelow f i) (f i) h (yes e t))
+
+  pub all-stop : (n i : ℕ) {r : Bool} → i < n → r ≡ f i → not r ≡ true → false ≡ allBelow f n
+  all-stop n i l e t = sym (fails n i l (no e t))
+
+abbrev pub Within : ℕ → ℕ → Type 0
+Within most v = (1 ≤ v) × (v ≤ most)
+
+module _ (most v : ℕ) where
+  pub within-of : within most v ≡ true → Within most v
+  unfolding within
+  within-of h = (leb-true 1 v (and-left (leb 1 v) (leb v most) h), leb-true v most (and-right (leb 1 v) (leb v most) h))
+
+  pub of-within : Within most v → within most v ≡ true
+  unfolding within
+  of-within h = and-both (leb 1 v) (leb v most) (le-leb 1 v (h .0)) (le-leb v most (h .1))

@@ -1,0 +1,3 @@
+pub mod BelowLaws
+pub mod RecordLaws
+pub mod SoundLaws
