@@ -1,0 +1,5 @@
+pub mod TestLaws
+pub mod FaultLaws
+pub mod HostLaws
+pub mod GoodLaws
+pub mod Samples

@@ -1,0 +1,64 @@
+-- `names::used_before` meets its contract: no row passed has kind and name of row i.
+use mathlib.Core.Path.{_≡_, refl, sym, _∙_}
+use mathlib.Core.Logic.{⊎-elim}
+use mathlib.Core.Bool.{Bool, true, false, _&&_, _||_}
+use mathlib.Core.List.{List}
+use Prim.Native.Nat.{ℕ, zero, suc, _+_, _-_, _<_, _≤_}
+use native.Mathlib.Nat.{eq-or-lt-of-le, le-of-suc-le-suc, not-suc-le-zero}
+use native.Mathlib.Numerals.{add-one}
+use native.Mathlib.Omega.{arith}
+use lib.Dec.{eqb}
+use borrow.Author.Needs.{needs}
+use Rattle.octets.specs.Same.{same}
+use Rattle.layout.specs.Layout.{kind, name}
+use Rattle.grammar.specs.Checks.{usedBelow}
+use Rattle.grammar.proofs.TestLaws.{or-right}
+use Rattle.grammar.proofs.names.used_before.Statement.{statement}
+use Rattle.grammar.proofs.names.used_before.Tie as tie
+
+module _ (b : List ℕ) (i : ℕ) where
+  abbrev twin : ℕ → Bool
+  twin j = eqb (kind b j) (kind b i) && same (name b j) (name b i)
+
+  more : (j : ℕ) → usedBelow b i j ≡ false → twin j ≡ false → usedBelow b i (j + 1) ≡ false
+  unfolding usedBelow
+  more j h e = rw (add-one, h) e
+
+  found : (n j : ℕ) → j < n → twin j ≡ true → usedBelow b i n ≡ true
+  unfolding usedBelow
+  found zero j l e = absurd (not-suc-le-zero l)
+  found (suc n) j l e =
+      ⊎-elim (λ q. or-right (usedBelow b i n) (twin n) (rw q at e)) (λ m. rw (found n j m e)) (eq-or-lt-of-le (le-of-suc-le-suc l))
+
+abbrev Inv-loop : tie.InvT-loop
+Inv-loop book i j₀ j = (j ≤ i) × (usedBelow book i j ≡ false)
+
+abbrev μ-loop : tie.MeasureT-loop
+μ-loop book i j₀ j = i - j
+
+loop-holds : tie.Need-loop-holds Inv-loop μ-loop
+unfolding usedBelow
+loop-holds c = (omega arith, refl)
+
+returns : tie.Need-returns Inv-loop μ-loop
+returns c =
+    let l = c .before .before .before in
+    let a = l .before .before .args in
+    sym (found (a .book .now) (a .i) (a .i) (l .loop .j) (omega arith) (sym (c .before .twins .ensures) ∙ c .if1 .taken))
+
+loop-again : tie.Need-loop-again Inv-loop μ-loop
+loop-again c =
+    let l = c .before .before .before in
+    let a = l .before .before .args in
+    (omega arith, more (a .book .now) (a .i) (l .loop .j) (l .loop .inv .1) (sym (c .before .twins .ensures) ∙ c .if1 .left))
+
+returns-2 : tie.Need-returns-2 Inv-loop μ-loop
+returns-2 c =
+    let l = c .before in
+    let e : l .loop .j ≡ l .before .before .args .i = omega arith in sym (rw e at (l .loop .inv .1))
+
+pub used-before-spec : {M : Type 1} → statement M
+used-before-spec =
+    tie.close (tie.spec
+    Inv-loop μ-loop loop-holds (λ c κs. search needs) returns (λ c. search needs)
+    (λ c. search needs) loop-again returns-2)

@@ -1,0 +1,24 @@
+-- Document 01, "The book": "Names: 1 to 256 bytes of letters, digits, - _ + . / and, inside only, space." Sample P10 computes from these.
+use Prim.Native.Nat.{ℕ, suc}
+use mathlib.Core.Bool.{Bool, _&&_, _||_}
+use mathlib.Core.List.{List}
+use lib.Dec.{leb, ltb, eqb}
+use lib.ListN.{length, getD}
+
+-- from lo to hi
+abbrev pub between : ℕ → ℕ → ℕ → Bool
+between lo hi c = leb lo c && leb c hi
+
+-- A to Z, a to z, 0 to 9, - _ + . /
+unfoldable pub letter : ℕ → Bool
+letter c =
+    between 65 90 c || (between 97 122 c || (between 48 57 c
+    || (eqb c 45 || (eqb c 95 || (eqb c 43 || (eqb c 46 || eqb c 47))))))
+
+-- a space that is neither the first nor the last byte of s
+unfoldable pub innerSpace : List ℕ → ℕ → Bool
+innerSpace s k = eqb (getD s k 0) 32 && (ltb 0 k && ltb (suc k) (length s))
+
+-- byte k of the name s may stand there
+unfoldable pub fitting : List ℕ → ℕ → Bool
+fitting s k = letter (getD s k 0) || innerSpace s k

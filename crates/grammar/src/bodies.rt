@@ -1,0 +1,121 @@
+// The bodies, one after the other: an interface's counts and words, and the names.
+use crate::COUNTS;
+use crate::Fault;
+use crate::NAME_USED;
+use crate::PERMITTED;
+use crate::fault_at;
+use crate::names;
+use crate::no_fault;
+ghost use mathlib.Core.Path.{_≡_};
+ghost use Prim.Native.Nat.{_≤_, _^_};
+ghost use lib.Dec.{ltb};
+ghost use Rattle.grammar.specs.Names.{between};
+ghost use Rattle.layout.specs.Layout.{commands};
+ghost use Rattle.grammar.specs.Faults.{first, each};
+ghost use Rattle.grammar.specs.Checks.{countChecks, wordChecks, nameChecks, interfaceChecks, bodyChecks};
+
+fn in_range(lo: usize, hi: usize, v: usize) -> bool
+    ensures { λ r. ⌜ r ≡ between lo hi v ⌝ }
+{
+    if v < lo {
+        return false;
+    }
+    v <= hi
+}
+
+fn judge_counts(book: &[u8], i: u16) -> Fault
+    ensures { λ r. ⌜ r ≡ first (countChecks (now (book .entry)) i) ⌝ }
+{
+    let body = layout::start(book, i);
+    if !in_range(1, 64, layout::commands(book, i) as usize) {
+        return fault_at(COUNTS, body + 16);
+    }
+    let e = layout::entries(book, i) as usize;
+    if !in_range(1, 16, e) {
+        return fault_at(COUNTS, body + 18);
+    }
+    if !in_range(21 + 10 * e, 276 + 10 * e, layout::size(book, i)) {
+        return fault_at(COUNTS, body + 18);
+    }
+    no_fault()
+}
+
+// Whether a word has no bit at or above c.
+fn word_fits(word: u64, c: u16) -> bool
+    requires { ⌜ c ≤ 64 ⌝ }
+    ensures { λ r. ⌜ r ≡ ltb word (2 ^ c) ⌝ }
+{
+    if c < 64 {
+        return word >> c == 0;
+    }
+    true
+}
+
+// The words of e entries.
+fn judge_words(book: &[u8], i: u16, e: u16) -> Fault
+    requires { ⌜ commands (now book) i ≤ 64 ⌝ }
+    ensures { λ r. ⌜ r ≡ first (each (wordChecks (now (book .entry)) i) 0 e) ⌝ }
+{
+    let c = layout::commands(book, i);
+    let body = layout::start(book, i);
+    let mut j: u16 = 0;
+    while j < e {
+        if !word_fits(layout::word(book, i, j), c) {
+            return fault_at(PERMITTED, body + 22 + 10 * j as usize);
+        }
+        j += 1;
+    }
+    no_fault()
+}
+
+fn judge_name(book: &[u8], i: u16) -> Fault
+    ensures { λ r. ⌜ r ≡ first (nameChecks (now (book .entry)) i) ⌝ }
+{
+    let at = layout::name_start(book, i);
+    let letters = names::judge_letters(layout::name(book, i), at);
+    if letters.number != 0 {
+        return letters;
+    }
+    if names::used_before(book, i) {
+        return fault_at(NAME_USED, at);
+    }
+    no_fault()
+}
+
+fn judge_interface(book: &[u8], i: u16) -> Fault
+    ensures { λ r. ⌜ r ≡ first (interfaceChecks (now (book .entry)) i) ⌝ }
+{
+    let counts = judge_counts(book, i);
+    if counts.number != 0 {
+        return counts;
+    }
+    judge_words(book, i, layout::entries(book, i))
+}
+
+fn judge_body(book: &[u8], i: u16) -> Fault
+    ensures { λ r. ⌜ r ≡ first (bodyChecks (now (book .entry)) i) ⌝ }
+{
+    if layout::kind(book, i) == 1 {
+        return judge_name(book, i);
+    }
+    let f = judge_interface(book, i);
+    if f.number != 0 {
+        return f;
+    }
+    judge_name(book, i)
+}
+
+// All n bodies.
+pub(crate) fn judge_bodies(book: &[u8], n: u16) -> Fault
+    ensures { λ r. ⌜ r ≡ first (each (bodyChecks (now (book .entry))) 0 n) ⌝ }
+{
+    let mut i: u16 = 0;
+    while i < n {
+        let f = judge_body(book, i);
+        if f.number != 0 {
+            return f;
+        }
+        i += 1;
+    }
+    no_fault()
+}
