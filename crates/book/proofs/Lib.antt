@@ -1,0 +1,5 @@
+pub mod FillLaws
+pub mod RowLaws
+pub mod Good
+pub mod ContentLaws
+pub mod LoadLaws
