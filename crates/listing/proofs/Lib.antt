@@ -1,0 +1,4 @@
+pub mod PieceLaws
+pub mod DecimalLaws
+pub mod LineLaws
+pub mod Samples
