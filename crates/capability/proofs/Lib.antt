@@ -1,0 +1,7 @@
+pub mod PlacedLaws
+pub mod ChainLaws
+pub mod RightsLaws
+pub mod BytesLaws
+pub mod WordsLaws
+pub mod CallLaws
+pub mod Samples
