@@ -27,6 +27,10 @@ and-false : (a b : Bool) → b ≡ false → (a && b) ≡ false
 and-false true b e = e
 and-false false b e = refl
 
+-- a loop that returns at `if !f(i)` has passed i of n
+abbrev pub Passed : (ℕ → Bool) → ℕ → ℕ → Type 0
+Passed f n i = (i ≤ n) × (allBelow f i ≡ true)
+
 module _ (f : ℕ → Bool) where
   pub below-all : (n : ℕ) → allBelow f n ≡ true → (i : ℕ) → i < n → f i ≡ true
   unfolding allBelow
@@ -46,17 +50,20 @@ module _ (f : ℕ → Bool) where
   fails (suc n) i l e =
       ⊎-elim (λ q. and-false (allBelow f n) (f n) (rw q at e)) (λ m. rw (fails n i m e)) (eq-or-lt-of-le (le-of-suc-le-suc l))
 
-  -- a loop that returns at `if !f(i)`: it starts, it passes i, or it returns there
-  pub all-none : allBelow f 0 ≡ true
+  -- it starts, it passes i, it returns there, or it ends
+  pub all-none : (n : ℕ) → Passed f n 0
   unfolding allBelow
-  all-none = refl
+  all-none n = (omega arith, refl)
 
-  pub all-more : (i : ℕ) {r : Bool} → allBelow f i ≡ true → r ≡ f i → not r ≡ false → allBelow f (i + 1) ≡ true
+  pub all-more : (n i : ℕ) {r : Bool} → i < n → allBelow f i ≡ true → r ≡ f i → not r ≡ false → Passed f n (i + 1)
   unfolding allBelow
-  all-more i h e t = rw add-one (and-both (allBelow f i) (f i) h (yes e t))
+  all-more n i l h e t = (omega arith, rw add-one (and-both (allBelow f i) (f i) h (yes e t)))
 
   pub all-stop : (n i : ℕ) {r : Bool} → i < n → r ≡ f i → not r ≡ true → false ≡ allBelow f n
   all-stop n i l e t = sym (fails n i l (no e t))
+
+  pub all-done : (n i : ℕ) → n ≤ i → Passed f n i → true ≡ allBelow f n
+  all-done n i l p = let e : i ≡ n = omega arith in sym (rw e at (p .1))
 
 abbrev pub Within : ℕ → ℕ → Type 0
 Within most v = (1 ≤ v) × (v ≤ most)

@@ -1,3 +1,4 @@
 pub mod BelowLaws
 pub mod RecordLaws
+pub mod ShutLaws
 pub mod SoundLaws

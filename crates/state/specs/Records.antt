@@ -1,6 +1,6 @@
 -- Document 01, "Handshake": one host's record, its five transitions, and its phase in two numbers.
 use Prim.Native.Nat.{ℕ}
-use mathlib.Core.Bool.{true, false, not}
+use mathlib.Core.Bool.{true, false}
 use mathlib.Core.List.{List}
 use lib.Dec.{eqb}
 use lib.ListN.{replicate}
@@ -24,9 +24,14 @@ requested c = record { phase = Waiting; challenge = c; key = zeros }
 abbrev pub proved : List ℕ → Record
 proved k = record { phase = Open 0 false; challenge = zeros; key = k }
 
--- an accepted command: its number is the last one, and a reply is owed for it
+-- an accepted command of an open connection: its number is the last one, and a reply is owed for it
+abbrev pub acceptedPhase : Phase → ℕ → Phase
+acceptedPhase Idle n = Idle
+acceptedPhase Waiting n = Waiting
+acceptedPhase (Open m owed) n = Open n true
+
 abbrev pub accepted : Record → ℕ → Record
-accepted r n = record { phase = Open n true; challenge = r .challenge; key = r .key }
+accepted r n = record { phase = acceptedPhase (r .phase) n; challenge = r .challenge; key = r .key }
 
 -- a claimed reply: none is owed any more
 abbrev pub repliedPhase : Phase → Phase
@@ -37,9 +42,9 @@ repliedPhase (Open n owed) = Open n false
 abbrev pub replied : Record → Record
 replied r = record { phase = repliedPhase (r .phase); challenge = r .challenge; key = r .key }
 
--- a phase in two numbers: tag 0 idle, 1 waiting, 2 open, any other open with a reply owed; and the last number
+-- a phase in two numbers: tag 1 waiting, 2 open, 3 open with a reply owed, any other idle; and the last number
 abbrev pub phaseOf : ℕ → ℕ → Phase
-phaseOf t n = pick (eqb t 0) Idle (pick (eqb t 1) Waiting (Open n (not (eqb t 2))))
+phaseOf t n = pick (eqb t 1) Waiting (pick (eqb t 2) (Open n false) (pick (eqb t 3) (Open n true) Idle))
 
 abbrev pub tagOf : Phase → ℕ
 tagOf Idle = 0

@@ -13,16 +13,22 @@ ghost use Rattle.state.specs.Flat.{recordOf, withRecord, withWord, noRig
 fn phase_at(tag: u8, last: u16) -> Phase
     ensures { λ r. ⌜ r ≡ phaseOf tag last ⌝ }
 {
-    if tag == 0 {
-        return Phase::Idle;
-    }
     if tag == 1 {
         return Phase::Waiting;
     }
-    Phase::Open {
-        last: last,
-        owed: tag != 2,
+    if tag == 2 {
+        return Phase::Open {
+            last: last,
+            owed: false,
+        };
     }
+    if tag == 3 {
+        return Phase::Open {
+            last: last,
+            owed: true,
+        };
+    }
+    Phase::Idle
 }
 
 fn tag_of(phase: Phase) -> u8
@@ -101,19 +107,23 @@ pub fn with_record(records: Records, i: usize, new: Record) -> Records
     if 32 <= i {
         return records;
     }
-    let mut next = records;
     let phase = new.phase;
-    next.tags[i] = tag_of(phase);
-    next.lasts[i] = last_of(phase);
+    let mut tags = records.tags;
+    tags[i] = tag_of(phase);
+    let mut lasts = records.lasts;
+    lasts[i] = last_of(phase);
     let challenges = records.challenges;
     let challenge = new.challenge;
     let put = with_sixteen(challenges, i * 16, challenge);
-    next.challenges = put;
     let keys = records.keys;
     let key = new.key;
     let laid = with_sixteen(keys, i * 16, key);
-    next.keys = laid;
-    next
+    Records {
+        tags: tags,
+        lasts: lasts,
+        challenges: put,
+        keys: laid,
+    }
 }
 
 // The rights with the word of entry j of interface i replaced; as they were where there is no such place.
@@ -126,9 +136,11 @@ pub fn with_word(rights: Rights, i: usize, j: usize, word: u64) -> Rights
     if 16 <= j {
         return rights;
     }
-    let mut next = rights;
+    let mut words = rights.words;
     let at = i * 16 + j;
-    next.words[at] = word;
+    words[at] = word;
+    let mut next = rights;
+    next.words = words;
     next
 }
 

@@ -1,7 +1,8 @@
 // The gateway's state: what the book says and one record per host, in fixed flat arrays (document 01, "The book" and "Handshake").
 //
-// The whole state is some 13 KB, so it is never passed by value: a call takes the parts that it reads and hands back the part that
-// changed. Hosts, interfaces and entries are counted from 0 here. Every function takes all inputs, a state that nobody loaded too.
+// The whole state is some 13 KB: no call but a load hands it over whole; every other takes the parts that it reads and hands back
+// the part that changed. Hosts, interfaces and entries are counted from 0 here. Every public function takes all inputs, a state that
+// nobody loaded too.
 mod flat;
 mod soundness;
 mod transitions;
@@ -34,7 +35,7 @@ pub struct Rights {
     pub secrets: [u8; 128],
 }
 
-// The records of all hosts. A record's phase is a tag (0 idle, 1 waiting, 2 open, any other open with a reply owed) and the last
+// The records of all hosts. A record's phase is a tag (1 waiting, 2 open, 3 open with a reply owed, any other idle) and the last
 // accepted number; its challenge and its key stand at 16 i.
 #[repr(C)]
 pub struct Records {

@@ -43,20 +43,25 @@ impl Record {
     pub fn proof(self, key: [u8; 16]) -> Record
         ensures { λ r. ⌜ r ≡ proved key ⌝ }
     {
+        let open = Phase::Open {
+            last: 0,
+            owed: false,
+        };
         Record {
-            phase: Phase::Open {
-                last: 0,
-                owed: false,
-            },
+            phase: open,
             challenge: [0; 16],
             key: key,
         }
     }
 
-    // A command with that number was accepted: a reply is owed for it.
+    // A command with that number was accepted: a reply is owed for it. A record that isn't open stays.
     pub fn accept(self, number: u16) -> Record
         ensures { λ r. ⌜ r ≡ accepted self number ⌝ }
     {
+        let phase = self.phase;
+        let Phase::Open { last, owed } = phase else {
+            return self;
+        };
         let challenge = self.challenge;
         let key = self.key;
         Record {
@@ -69,7 +74,7 @@ impl Record {
         }
     }
 
-    // The reply that was owed is claimed.
+    // The reply that was owed is claimed. A record that isn't open stays.
     pub fn reply(self) -> Record
         ensures { λ r. ⌜ r ≡ replied self ⌝ }
     {

@@ -14,9 +14,10 @@ unfolding withRecord
 returns-2 c =
     let p = c .before .before .before in
     let q = p .before .before .before in
+    let t = q .before .before in
     rw (
-      lt-ltb _ 32 (q .before .before .if1 .left),
-      q .before .tag-of .ensures,
+      lt-ltb _ 32 (t .before .before .if1 .left),
+      t .tag-of .ensures,
       q .last-of .ensures,
       p .with-sixteen .ensures,
       c .with-sixteen2 .ensures,

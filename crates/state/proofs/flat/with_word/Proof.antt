@@ -15,7 +15,7 @@ returns-2 c = rw (lt-ltb _ 8 (c .before .if1 .left), le-ltb _ 16 (c .if2 .taken)
 
 returns-3 : tie.Need-returns-3
 unfolding withWord
-returns-3 c = rw (lt-ltb _ 8 (c .before .if1 .left), lt-ltb _ 16 (c .if2 .left))
+returns-3 c = let p = c .before in rw (lt-ltb _ 8 (p .before .if1 .left), lt-ltb _ 16 (p .if2 .left))
 
 pub with-word-spec : {M : Type 1} → statement M
 with-word-spec =

@@ -1,0 +1,3 @@
+pub mod CommonLaws
+pub mod CloseLaws
+pub mod RevokeLaws
