@@ -1,27 +1,29 @@
--- What a load gives. A good book's state is sound, all its records are idle, and each name, label and master secret is read back where
--- it stands. A refused load's state is the empty one, which is sound and has no hosts and no interfaces.
+-- What a load gives. Its state is sound and all its records are idle, whether the book is good or refused. A good book's hosts are
+-- all there, and each name, label, master secret and word is read back where it stands, as long as the state says; a refused
+-- load's state has no hosts and no interfaces.
 use mathlib.Core.Path.{_≡_, refl, ap, _∙_}
 use mathlib.Core.Bool.{true, false}
 use mathlib.Core.List.{List}
 use Prim.Native.Nat.{ℕ, zero, suc, _+_, _*_, _-_, _<_}
 use native.Mathlib.Nat.{zero-add, mul-comm}
 use native.Mathlib.Omega.{arith}
-use lib.ListN.{length, getD}
+use lib.ListN.{getD}
 use Rattle.octets.specs.Checks.{isZero}
 use Rattle.octets.specs.Room.{part}
 use Rattle.layout.specs.Layout.{rows, name, secret, entries, word}
 use Rattle.grammar.specs.declared.Fault.{Fault}
 use Rattle.grammar.specs.Checks.{faultOf}
+use Rattle.grammar.proofs.GoodLaws.{good-none}
 use Rattle.state.specs.declared.State.{State}
 use Rattle.state.specs.Records.{closed}
-use Rattle.state.specs.Flat.{noRights, recordOf}
+use Rattle.state.specs.Flat.{noRights, idleRecords, recordOf}
 use Rattle.state.specs.Sound.{soundRights}
 use Rattle.state.proofs.RecordLaws.{idle-all}
 use Rattle.state.proofs.SoundLaws.{of-sound, sound-none}
-use Rattle.book.specs.Contents.{Contents, hostCount, contentsOf}
-use Rattle.book.specs.States.{rightsOf, namesOf, labelsOf, stateOf, emptyState, loadedWith, loaded}
+use Rattle.book.specs.Contents.{hostCount, contentsOf}
+use Rattle.book.specs.States.{fill, laid, stateOf, emptyState, loadedWith, loaded}
 use Rattle.book.specs.declared.Loaded.{Loaded}
-use Rattle.book.specs.Columns.{field, bytesOf, words}
+use Rattle.book.specs.Columns.{collect, field, bytesOf, words}
 use Rattle.book.proofs.FillLaws.{length-collect, getD-collect, getD-column, getD-laid, part-laid}
 use Rattle.book.proofs.RowLaws.{secret-short}
 use Rattle.book.proofs.Good.{hosts-within, interfaces-within, name-within, commands-within, entries-within, word-below, secret-whole}
@@ -32,50 +34,93 @@ not-zero zero h = absurd (h refl)
 not-zero (suc n) h = refl
 
 module _ (f : Fault) (s : State) where
-  pub refused : (f .number ≡ 0 → ⊥) → loadedWith f s ≡ record { number = f .number; offset = f .offset; state = emptyState }
+  pub refused : (f .number ≡ 0 → ⊥) → loadedWith f s ≡ record { number = f .number; blocks = 0; offset = f .offset; state = emptyState }
   unfolding loadedWith
   refused h = rw (not-zero (f .number) h)
 
-  pub accepted : f .number ≡ 0 → loadedWith f s ≡ record { number = 0; offset = f .offset; state = s }
+  pub accepted : f .number ≡ 0 → loadedWith f s ≡ record { number = 0; blocks = 0; offset = f .offset; state = s }
   unfolding loadedWith
   accepted e = rw e
 
-pub loaded-refused : (b : List ℕ) → (faultOf b .number ≡ 0 → ⊥) → loaded b .state ≡ emptyState
-unfolding loaded
-loaded-refused b h = ap (λ (l : Loaded). l .state) (refused (faultOf b) (stateOf (contentsOf b)) h)
+abbrev stateColumns : List ℕ → ℕ → ℕ → State
+stateColumns b h m = record {
+  rights = columns b h m;
+  records = idleRecords;
+  names = fill 8192 (laid 256 (collect (bytesOf 0 b) 0 h));
+  labels = fill 2048 (laid 256 (collect (bytesOf 0 b) h m));
+}
 
-pub loaded-good : (b : List ℕ) → faultOf b .number ≡ 0 → loaded b .state ≡ stateOf (contentsOf b)
-unfolding loaded
-loaded-good b e = ap (λ (l : Loaded). l .state) (accepted (faultOf b) (stateOf (contentsOf b)) e)
+-- a refused load's state
+module _ (b : List ℕ) (r : faultOf b .number ≡ 0 → ⊥) where
+  load-empty : loaded b .state ≡ emptyState
+  unfolding loaded
+  load-empty = ap (λ (l : Loaded). l .state) (refused (faultOf b) (stateOf (contentsOf b)) r)
 
-pub empty-sound : soundRights (emptyState .rights) ≡ true
-unfolding emptyState
-empty-sound = sound-none
+  pub load-none : (loaded b .state .rights .hosts ≡ 0) × (loaded b .state .rights .interfaces ≡ 0)
+  unfolding emptyState noRights
+  load-none = (ap (λ (s : State). s .rights .hosts) load-empty, ap (λ (s : State). s .rights .interfaces) load-empty)
 
-pub empty-none : (emptyState .rights .hosts ≡ 0) × (emptyState .rights .interfaces ≡ 0)
-unfolding emptyState noRights
-empty-none = (refl, refl)
-
-pub loaded-idle : (c : Contents) (i : ℕ) → recordOf (stateOf c .records) i ≡ closed
-unfolding stateOf
-loaded-idle c i = idle-all i
-
+-- a good book's state
 module _ (b : List ℕ) (e : faultOf b .number ≡ 0) where
-  word-read : (i j : ℕ) → i < rows b - hostCount b → j < entries b (hostCount b + i)
-      → getD (columns b (hostCount b) (rows b - hostCount b) .words) (i * 16 + j) 0 ≡ word b (hostCount b + i) j
-  word-read i j l k =
-      let h = hostCount b in
-      rw mul-comm (getD-laid 16 (words b) 128 h (rows b - h) i j l (λ n q. rw length-collect (good-room b e .entries n q)) (rw length-collect k))
-      ∙ getD-collect (word b (h + i)) 0 (entries b (h + i)) j 0 k
-      ∙ ap (word b (h + i)) (zero-add j)
+  abbrev h : ℕ
+  h = hostCount b
 
-  pub loaded-sound : soundRights (rightsOf (contentsOf b)) ≡ true
-  unfolding contentsOf field
-  loaded-sound =
-      let h = hostCount b in
-      let m = rows b - h in
+  abbrev m : ℕ
+  m = rows b - h
+
+  load-columns : loaded b .state ≡ stateColumns b h m
+  unfolding loaded stateOf contentsOf
+  load-columns =
+      ap (λ (l : Loaded). l .state) (accepted (faultOf b) (stateOf (contentsOf b)) e)
+      ∙ (λ t. record {
+        rights = rights-columns b h m t;
+        records = idleRecords;
+        names = names-columns b h m t;
+        labels = labels-columns b h m t;
+      })
+
+  pub load-offset : loaded b .offset ≡ 0
+  unfolding loaded loadedWith
+  load-offset = ap (λ (f : Fault). f .offset) (good-none b e)
+
+  pub load-hosts : loaded b .state .rights .hosts ≡ hostCount b
+  load-hosts = ap (λ (s : State). s .rights .hosts) load-columns
+
+  pub load-interfaces : loaded b .state .rights .interfaces ≡ rows b - hostCount b
+  load-interfaces = ap (λ (s : State). s .rights .interfaces) load-columns
+
+  column-name : (i : ℕ) → i < h
+      → part (stateColumns b h m .names) (256 * i) (getD (columns b h m .sizes) i 0) ≡ name b i
+  unfolding field bytesOf
+  column-name i l =
+      rw (getD-column (field 1 b) 32 0 h i l, zero-add) (rw (zero-add i) at (part-laid 256 (bytesOf 0 b) 8192 0 h i l (good-room b e .names)))
+
+  pub load-name : (i : ℕ) → i < loaded b .state .rights .hosts
+      → part (loaded b .state .names) (256 * i) (getD (loaded b .state .rights .sizes) i 0) ≡ name b i
+  load-name i l = rw load-columns (column-name i (rw load-hosts at l))
+
+  module _ (i : ℕ) (l : i < m) where
+    column-label : part (stateColumns b h m .labels) (256 * i) (getD (columns b h m .spans) i 0) ≡ name b (h + i)
+    unfolding field bytesOf
+    column-label = rw (getD-column (field 1 b) 8 h m i l) (part-laid 256 (bytesOf 0 b) 2048 h m i l (good-room b e .labels))
+
+    column-secret : part (columns b h m .secrets) (16 * i) 16 ≡ secret b (h + i)
+    unfolding bytesOf
+    column-secret =
+        rw (secret-whole b e (h + i) (omega arith) (omega arith)) at
+        (part-laid 16 (bytesOf 1 b) 128 h m i l (λ k _. secret-short b (h + k)))
+
+    column-word : (j : ℕ) → j < entries b (h + i) → getD (columns b h m .words) (16 * i + j) 0 ≡ word b (h + i) j
+    column-word j k =
+        getD-laid 16 (words b) 128 h m i j l (λ n q. rw length-collect (good-room b e .entries n q)) (rw length-collect k)
+        ∙ getD-collect (word b (h + i)) 0 (entries b (h + i)) j 0 k
+        ∙ ap (word b (h + i)) (zero-add j)
+
+  columns-sound : soundRights (columns b h m) ≡ true
+  unfolding field
+  columns-sound =
       let q = hosts-rows b in
-      rw (rights-columns b h m) (of-sound (columns b h m) (record {
+      of-sound (columns b h m) (record {
         hosts = hosts-within b e;
         interfaces = interfaces-within b e;
         size = λ i l. rw (getD-column (field 1 b) 32 0 h i l, zero-add) (name-within b e i (omega arith));
@@ -84,26 +129,39 @@ module _ (b : List ℕ) (e : faultOf b .number ≡ 0) where
               span = name-within b e (h + i) (omega arith);
               commands = commands-within b e (h + i) (omega arith) (omega arith);
               entries = entries-within b e (h + i) (omega arith) (omega arith);
-              word = λ j k. rw (word-read i j l k) (word-below b e (h + i) (omega arith) (omega arith) j k);
+              word = λ j k.
+                  rw (mul-comm i 16, column-word i l j k) (word-below b e (h + i) (omega arith) (omega arith) j k);
             });
-      }))
+      })
 
-  pub loaded-name : (i : ℕ) → i < hostCount b → part (namesOf (contentsOf b)) (256 * i) (length (name b i)) ≡ name b i
-  unfolding contentsOf bytesOf
-  loaded-name i l =
-      rw (names-columns b (hostCount b) (rows b - hostCount b))
-      (rw (zero-add i) at (part-laid 256 (bytesOf 0 b) 8192 0 (hostCount b) i l (good-room b e .names)))
+  module _ (i : ℕ) (l : i < loaded b .state .rights .interfaces) where
+    pub load-label : part (loaded b .state .labels) (256 * i) (getD (loaded b .state .rights .spans) i 0) ≡ name b (hostCount b + i)
+    load-label = rw load-columns (column-label i (rw load-interfaces at l))
 
-  module _ (i : ℕ) (l : hostCount b + i < rows b) where
-    pub loaded-label : part (labelsOf (contentsOf b)) (256 * i) (length (name b (hostCount b + i))) ≡ name b (hostCount b + i)
-    unfolding contentsOf bytesOf
-    loaded-label =
-        rw (labels-columns b (hostCount b) (rows b - hostCount b))
-        (part-laid 256 (bytesOf 0 b) 2048 (hostCount b) (rows b - hostCount b) i (omega arith) (good-room b e .labels))
+    pub load-secret : part (loaded b .state .rights .secrets) (16 * i) 16 ≡ secret b (hostCount b + i)
+    load-secret = rw load-columns (column-secret i (rw load-interfaces at l))
 
-    pub loaded-secret : part (rightsOf (contentsOf b) .secrets) (16 * i) 16 ≡ secret b (hostCount b + i)
-    unfolding contentsOf bytesOf
-    loaded-secret =
-        rw (rights-columns b (hostCount b) (rows b - hostCount b))
-        (rw (secret-whole b e (hostCount b + i) (omega arith) l) at
-        (part-laid 16 (bytesOf 1 b) 128 (hostCount b) (rows b - hostCount b) i (omega arith) (λ k h. secret-short b (hostCount b + k))))
+    pub load-entries : getD (loaded b .state .rights .entries) i 0 ≡ entries b (hostCount b + i)
+    unfolding field
+    load-entries = rw load-columns (getD-column (field 3 b) 8 h m i (rw load-interfaces at l))
+
+    pub load-word : (j : ℕ) → j < getD (loaded b .state .rights .entries) i 0
+        → getD (loaded b .state .rights .words) (16 * i + j) 0 ≡ word b (hostCount b + i) j
+    load-word j k = rw load-columns (column-word i (rw load-interfaces at l) j (rw load-entries at k))
+
+-- good or refused
+module _ (b : List ℕ) where
+  either-way : (P : State → Type 0) → ((e : faultOf b .number ≡ 0) → P (stateColumns b (hostCount b) (rows b - hostCount b))) → P emptyState
+      → P (loaded b .state)
+  either-way P good bad = by (faultOf b .number) refl where
+    by : (n : ℕ) → faultOf b .number ≡ n → P (loaded b .state)
+    by zero z = rw (load-columns b z) (good z)
+    by (suc n) z = rw (load-empty b (λ y. omega arith)) bad
+
+  pub load-sound : soundRights (loaded b .state .rights) ≡ true
+  unfolding emptyState
+  load-sound = either-way (λ s. soundRights (s .rights) ≡ true) (λ e. columns-sound b e) sound-none
+
+  pub load-idle : (i : ℕ) → recordOf (loaded b .state .records) i ≡ closed
+  unfolding emptyState
+  load-idle i = either-way (λ s. recordOf (s .records) i ≡ closed) (λ e. idle-all i) (idle-all i)

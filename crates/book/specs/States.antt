@@ -54,9 +54,9 @@ stateOf c = record { rights = rightsOf c; records = idleRecords; names = namesOf
 unfoldable pub emptyState : State
 emptyState = record { rights = noRights; records = idleRecords; names = replicate 8192 0; labels = replicate 2048 0 }
 
--- what loading a book gives: its number and place, 0 blocks being counted, and the new state
+-- what loading a book gives: its number and place, no blocks, and the new state
 unfoldable pub loadedWith : Fault → State → Loaded
-loadedWith f s = record { number = f .number; offset = f .offset; state = pick (isZero (f .number)) s emptyState }
+loadedWith f s = record { number = f .number; blocks = 0; offset = f .offset; state = pick (isZero (f .number)) s emptyState }
 
 unfoldable pub loaded : List ℕ → Loaded
 loaded b = loadedWith (faultOf b) (stateOf (contentsOf b))

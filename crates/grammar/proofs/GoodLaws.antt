@@ -12,12 +12,14 @@ use lib.ListN.{length}
 use borrow.Author.Tests.{ltb-true, ltb-false, eqb-true, eqb-false, eq-eqb, ne-eqb, not-false}
 use Rattle.octets.specs.Checks.{pick, isZero}
 use Rattle.octets.proofs.CheckLaws.{and-left, and-right}
+use Rattle.octets.proofs.SameLaws.{same-refl}
 use Rattle.layout.specs.Layout.{format, rows, total, row, kind, id, start, size, hostsBefore, expected, commands, entries, word, nameStart, name}
 use Rattle.grammar.specs.Names.{fitting}
-use Rattle.grammar.specs.Faults.{Check, _at_when_, one, first, each, _else_}
+use Rattle.grammar.specs.Faults.{Check, _at_when_, one, first, each, _else_, none}
 use Rattle.grammar.specs.Checks.{headChecks, kindFits, ordinal, sizeFits, rowChecks, countChecks, wordChecks, letterChecks, usedBelow, nameChecks, interfaceChecks, bodyChecks, faultOf}
 use Rattle.grammar.specs.declared.Fault.{Fault}
 use Rattle.grammar.proofs.TestLaws.{or-none, between-both}
+use Rattle.grammar.proofs.TwinLaws.{found}
 use Rattle.grammar.proofs.HostLaws.{hosts-host, hosts-other}
 use Rattle.grammar.proofs.FaultLaws.{else-stop, else-go, first-append}
 
@@ -36,6 +38,40 @@ passed-of [] h e = tt
 passed-of ((zero at p when t) ∷ cs) h e = absurd (false≢true h)
 passed-of ((suc n at p when true) ∷ cs) h e = absurd (omega arith)
 passed-of ((suc n at p when false) ∷ cs) h e = (refl, passed-of cs h e)
+
+pub of-passed : (cs : List Check) → Passed cs → first cs ≡ none
+unfolding first
+of-passed [] h = refl
+of-passed ((n at p when t) ∷ cs) h = rw (h .0) (of-passed cs (h .1))
+
+numbered-append : (xs ys : List Check) → numbered xs ≡ true → numbered ys ≡ true → numbered (xs ++ ys) ≡ true
+numbered-append [] ys h k = k
+numbered-append ((zero at p when t) ∷ cs) ys h k = absurd (false≢true h)
+numbered-append ((suc n at p when t) ∷ cs) ys h k = numbered-append cs ys h k
+
+numbered-each : (F : ℕ → List Check) → ((i : ℕ) → numbered (F i) ≡ true) → (i n : ℕ) → numbered (each F i n) ≡ true
+unfolding each
+numbered-each F h i zero = refl
+numbered-each F h i (suc n) = numbered-append (F i) (each F (suc i) n) (h i) (numbered-each F h (suc i) n)
+
+numbered-body : (b : List ℕ) (i : ℕ) → numbered (bodyChecks b i) ≡ true
+unfolding bodyChecks interfaceChecks nameChecks
+numbered-body b i =
+    numbered-append (pick (eqb (kind b i) 1) [] (interfaceChecks b i)) (nameChecks b i) (either (eqb (kind b i) 1))
+    (numbered-append (each (letterChecks (nameStart b i) (name b i)) 0 (length (name b i))) _
+    (numbered-each (letterChecks (nameStart b i) (name b i)) (λ k. refl) 0 (length (name b i))) refl) where
+      either : (t : Bool) → numbered (pick t [] (interfaceChecks b i)) ≡ true
+      either true = refl
+      either false = numbered-each (wordChecks b i) (λ k. refl) 0 (entries b i)
+
+-- an accepted book's fault has the place 0 too
+pub good-none : (b : List ℕ) → faultOf b .number ≡ 0 → faultOf b ≡ none
+unfolding faultOf
+good-none b e =
+    let cs = headChecks b ++ each (rowChecks b) 0 (rows b) ++ each (bodyChecks b) 0 (rows b) in
+    of-passed cs (passed-of cs
+    (numbered-append (headChecks b ++ each (rowChecks b) 0 (rows b)) (each (bodyChecks b) 0 (rows b))
+    (numbered-each (rowChecks b) (λ i. refl) 0 (rows b)) (numbered-each (bodyChecks b) (numbered-body b) 0 (rows b))) e)
 
 else-good : (f g : Fault) → (f else g) .number ≡ 0 → (f .number ≡ 0) × (g .number ≡ 0)
 else-good f g e = either (f .number) refl where
@@ -130,8 +166,8 @@ module _ (b : List ℕ) (good : faultOf b .number ≡ 0) where
         not-false _ (passed-of (letterChecks (nameStart b i) (name b i) k) refl
         (rw z at (each-good (letterChecks (nameStart b i) (name b i)) 0 (length (name b i)) k (append-good s _ name-good .0) m)) .0)
 
-    pub good-unique : usedBelow b i i ≡ false
-    good-unique =
+    unused : usedBelow b i i ≡ false
+    unused =
         let s = each (letterChecks (nameStart b i) (name b i)) 0 (length (name b i)) in
         passed-of (48 at nameStart b i when usedBelow b i i ∷ []) refl (append-good s _ name-good .1) .0
 
@@ -158,6 +194,11 @@ module _ (b : List ℕ) (good : faultOf b .number ≡ 0) where
           let z : 0 + j ≡ j = omega arith in
           ltb-true _ _ (not-false _ (passed-of (wordChecks b i j) refl
           (rw z at (each-good (wordChecks b i) 0 (entries b i) j (append-good (countChecks b i) (each (wordChecks b i) 0 (entries b i)) interface-good .1) m)) .0))
+
+  -- "unique within a kind": no two rows have the same kind and the same name
+  pub good-unique : (i j : ℕ) → i < j → j < rows b → kind b i ≡ kind b j → name b i ≡ name b j → ⊥
+  good-unique i j l h k s =
+      true≢false (sym (found b j j i l (rw (k, s, eq-eqb (kind b j) (kind b j) refl) (same-refl (name b j)))) ∙ unused j h)
 
   -- "Hosts first, 1 to 32; then interfaces, 0 to 8", of the first i rows and of all
   pub good-counts : (i : ℕ) → i ≤ rows b → (hostsBefore b i ≤ 32) × (i ≤ hostsBefore b i + 8)

@@ -1,4 +1,5 @@
 pub mod TestLaws
+pub mod TwinLaws
 pub mod FaultLaws
 pub mod HostLaws
 pub mod GoodLaws

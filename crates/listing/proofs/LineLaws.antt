@@ -1,8 +1,8 @@
 -- How long the pieces and the lines of a listing are, and the listing of a sound state.
-use mathlib.Core.Path.{_≡_, ap}
+use mathlib.Core.Path.{_≡_, refl, ap}
 use mathlib.Core.Bool.{true}
 use mathlib.Core.List.{List, _++_}
-use Prim.Native.Nat.{ℕ, _+_, _*_, _≤_, _<_}
+use Prim.Native.Nat.{ℕ, zero, suc, _+_, _*_, _≤_, _<_}
 use native.Mathlib.Omega.{arith}
 use lib.ListN.{length, getD, drop, length-append, length-take}
 use Rattle.octets.specs.Room.{part}
@@ -10,7 +10,7 @@ use Rattle.state.specs.declared.Rights.{Rights}
 use Rattle.state.specs.Sound.{soundRights}
 use Rattle.state.proofs.SoundLaws.{sound-facts}
 use Rattle.listing.specs.Decimal.{decimal}
-use Rattle.listing.specs.Lines.{labelled, ending, space, newline, countsLine, hostLine, interfaceLine, linesFrom, listingOf}
+use Rattle.listing.specs.Lines.{labelled, ending, space, newline, countsLine, hostLine, interfaceLine, lineOf, lineCount, linesFrom, listingOf}
 use Rattle.listing.specs.Wrote.{Wrote}
 use Rattle.listing.proofs.DecimalLaws.{length-digits, length-one, length-two}
 use Rattle.listing.proofs.PieceLaws.{wrote-length, wrote-as, length-lines}
@@ -19,6 +19,15 @@ use Rattle.listing.proofs.PieceLaws.{wrote-length, wrote-as, length-lin
 pub wrote-labelled : (d : List ℕ) (at : ℕ) (t : List ℕ) (n : ℕ) {r : ℕ} {e : List ℕ} → Wrote d at (labelled t n) r e
     → (r ≤ at + length t + 5) × (length e ≡ length d)
 wrote-labelled d at t n w = (omega (arith, length-append t (decimal n), length-digits 5 n), wrote-length d at (labelled t n) w)
+
+-- where two texts, each with a number, end
+pub wrote-pair : (d : List ℕ) (at : ℕ) (t : List ℕ) (n : ℕ) (u : List ℕ) (m : ℕ) {r : ℕ} {e : List ℕ} → Wrote d at (labelled t n ++ labelled u m) r e
+    → (r ≤ at + length t + length u + 10) × (length e ≡ length d)
+wrote-pair d at t n u m w =
+    let l = length-append (labelled t n) (labelled u m) in
+    let a = length-append t (decimal n) in
+    let b = length-append u (decimal m) in
+    (omega (arith, length-digits 5 n, length-digits 5 m), wrote-length d at (labelled t n ++ labelled u m) w)
 
 pub part-within : (s : List ℕ) (at size : ℕ) → length (part s at size) ≤ size
 part-within s at size = rw (length-take size (drop at s)) (omega arith)
@@ -56,18 +65,44 @@ module _ (r : Rights) (names : List ℕ) (i : ℕ) where
         part-within names (256 * i) (getD (r .spans) i 0),
       ))
 
--- the lines of a sound state, and its listing
-module _ (r : Rights) (names : List ℕ) (sound : soundRights r ≡ true) (k : ℕ) where
-  pub length-hosts : k ≤ r .hosts → length (linesFrom (hostLine r names) 0 k) ≤ k * 277
-  length-hosts h =
-      let f = sound-facts r sound in
-      length-lines (hostLine r names) 277 0 k (λ j l. length-host r names j (omega arith) (f .size j (omega arith) .1))
+-- the lines by what they are of
+module _ (r : Rights) where
+  pub of-hosts : {what : ℕ} → what ≡ 0 → (lineOf what ≡ hostLine) × (lineCount what r ≡ r .hosts)
+  unfolding lineOf lineCount
+  of-hosts h = rw h (refl, refl)
 
-  pub length-interfaces : k ≤ r .interfaces → length (linesFrom (interfaceLine r names) 0 k) ≤ k * 292
-  length-interfaces h =
+  pub of-interfaces : (what : ℕ) → (what ≡ 0 → ⊥) → (lineOf what ≡ interfaceLine) × (lineCount what r ≡ r .interfaces)
+  unfolding lineOf lineCount
+  of-interfaces zero h = absurd (h refl)
+  of-interfaces (suc w) h = (refl, refl)
+
+-- the lines of a sound state, and its listing
+module _ (r : Rights) (sound : soundRights r ≡ true) where
+  pub count-most : (what : ℕ) → lineCount what r ≤ 32
+  unfolding lineCount
+  count-most zero = sound-facts r sound .hosts
+  count-most (suc w) = let f = sound-facts r sound in omega (arith, f .interfaces)
+
+  host-most : (names : List ℕ) (j : ℕ) → j < r .hosts → length (hostLine r names j) ≤ 277
+  host-most names j h = let f = sound-facts r sound in length-host r names j (omega (arith, f .hosts)) (f .size j h .1)
+
+  pub length-line : (what : ℕ) (bytes : List ℕ) (j : ℕ) → j < lineCount what r → length (lineOf what r bytes j) ≤ 292
+  unfolding lineOf lineCount
+  length-line zero bytes j h = omega (arith, host-most bytes j h)
+  length-line (suc w) bytes j h =
       let f = sound-facts r sound in
-      length-lines (interfaceLine r names) 292 0 k
-      (λ j l. let g = f .interface j (omega arith) in length-interface r names j (omega arith) (omega arith) (omega arith) (omega arith))
+      let g = f .interface j h in
+      length-interface r bytes j (omega (arith, f .interfaces)) (omega arith) (omega arith) (omega arith)
+
+  pub length-hosts : (names : List ℕ) → length (linesFrom (hostLine r names) 0 (r .hosts)) ≤ r .hosts * 277
+  length-hosts names = length-lines (hostLine r names) 277 0 (r .hosts) (λ j l. host-most names j (omega arith))
+
+  pub length-of : (what : ℕ) (bytes : List ℕ) (k : ℕ) → k ≤ lineCount what r → length (linesFrom (lineOf what r bytes) 0 k) ≤ k * 292
+  length-of what bytes k h = length-lines (lineOf what r bytes) 292 0 k (λ j l. length-line what bytes j (omega arith))
+
+  pub length-interfaces : (labels : List ℕ) → length (linesFrom (interfaceLine r labels) 0 (r .interfaces)) ≤ r .interfaces * 292
+  unfolding lineOf lineCount
+  length-interfaces labels = length-of 1 labels (r .interfaces) (omega arith)
 
 pub length-listing : (r : Rights) (names labels : List ℕ) → soundRights r ≡ true → length (listingOf r names labels) ≤ 11222
 unfolding listingOf
@@ -77,6 +112,6 @@ length-listing r names labels sound =
     (omega (
       arith,
       length-counts r (f .hosts) (f .interfaces),
-      length-hosts r names sound (r .hosts) (omega arith),
-      length-interfaces r labels sound (r .interfaces) (omega arith),
+      length-hosts r sound names,
+      length-interfaces r sound labels,
     ))

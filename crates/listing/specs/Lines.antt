@@ -5,7 +5,7 @@ use mathlib.Core.Bool.{Bool, not, _&&_}
 use mathlib.Core.List.{List, [], _∷_, _++_}
 use lib.Dec.{leb, ltb}
 use lib.ListN.{length, getD}
-use Rattle.octets.specs.Checks.{pick, _when_, refusal}
+use Rattle.octets.specs.Checks.{pick, isZero, _when_, refusal}
 use Rattle.octets.specs.Room.{part, placed}
 use Rattle.state.specs.declared.Rights.{Rights}
 use Rattle.state.specs.Sound.{soundRights}
@@ -68,6 +68,15 @@ interfaceLine r labels i =
     labelled interfaceText (i + 1) ++ labelled commandsText (getD (r .commands) i 0) ++ labelled entriesText (getD (r .entries) i 0)
     ++ ending (part labels (256 * i) (getD (r .spans) i 0))
 
+-- a host's line (0) or an interface's (any other), and how many of them there are
+unfoldable pub lineOf : ℕ → Rights → List ℕ → ℕ → List ℕ
+lineOf zero = hostLine
+lineOf (suc w) = interfaceLine
+
+unfoldable pub lineCount : ℕ → Rights → ℕ
+lineCount zero r = r .hosts
+lineCount (suc w) r = r .interfaces
+
 -- m lines from line i on
 unfoldable pub linesFrom : (ℕ → List ℕ) → ℕ → ℕ → List ℕ
 linesFrom f i zero = []
@@ -90,6 +99,12 @@ longest = 11264
 -- 39 for a state that isn't sound, 7 for a room below that size
 unfoldable pub renderRefusal : Rights → List ℕ → ℕ
 renderRefusal r room = refusal (39 when not (soundRights r) ∷ 7 when ltb (length room) longest ∷ [])
+
+unfoldable pub renderLength : Rights → List ℕ → List ℕ → List ℕ → ℕ
+renderLength r names labels room = pick (isZero (renderRefusal r room)) (length (listingOf r names labels)) 0
+
+unfoldable pub renderRoom : Rights → List ℕ → List ℕ → List ℕ → List ℕ
+renderRoom r names labels room = pick (isZero (renderRefusal r room)) (placed room 0 (listingOf r names labels)) room
 
 -- a refusal's line fits a room of 24 bytes, if its place is below 65,536
 unfoldable pub refusedFits : ℕ → List ℕ → Bool

@@ -3,10 +3,7 @@ mod lines;
 mod text;
 
 ghost use mathlib.Core.Path.{_≡_};
-ghost use lib.ListN.{length};
-ghost use Rattle.octets.specs.Checks.{pick, isZero};
-ghost use Rattle.octets.specs.Room.{placed};
-ghost use Rattle.listing.specs.Lines.{listingOf, renderRefusal, refusedLength, refusedRoom};
+ghost use Rattle.listing.specs.Lines.{renderRefusal, renderLength, renderRoom, refusedLength, refusedRoom};
 
 // What `render` answers: the number, and how many bytes were written at the start of the room.
 pub struct Rendered {
@@ -24,8 +21,8 @@ const LONGEST: usize = 11264;
 // every listing (7); then nothing is written.
 pub fn render(rights: state::Rights, names: &[u8], labels: &[u8], room: &mut [u8]) -> Rendered
     ensures { λ r. ⌜ (r .number ≡ renderRefusal rights (now (room .entry)))
-        × (r .length ≡ pick (isZero (renderRefusal rights (now (room .entry)))) (length (listingOf rights (now (names .entry)) (now (labels .entry)))) 0)
-        × (now (room .exit) ≡ pick (isZero (renderRefusal rights (now (room .entry)))) (placed (now (room .entry)) 0 (listingOf rights (now (names .entry)) (now (labels .entry)))) (now (room .entry))) ⌝ }
+        × (r .length ≡ renderLength rights (now (names .entry)) (now (labels .entry)) (now (room .entry)))
+        × (now (room .exit) ≡ renderRoom rights (now (names .entry)) (now (labels .entry)) (now (room .entry))) ⌝ }
 {
     if !state::sound(rights) {
         return Rendered {
@@ -40,8 +37,8 @@ pub fn render(rights: state::Rights, names: &[u8], labels: &[u8], room: &mut [u8
         };
     }
     let a = lines::counts_line(rights, room, 0);
-    let b = lines::host_lines(rights, names, room, a);
-    let c = lines::interface_lines(rights, labels, room, b);
+    let b = lines::put_lines(rights, names, room, a, 0, rights.hosts);
+    let c = lines::put_lines(rights, labels, room, b, 1, rights.interfaces);
     Rendered {
         number: 0,
         length: c,
@@ -60,7 +57,6 @@ pub fn render_refused(number: u8, offset: usize, room: &mut [u8]) -> usize
     if room.len() < 24 {
         return 0;
     }
-    let a = text::put_labelled(room, 0, b"refused ", number as u16);
-    let b = text::put_labelled(room, a, b" at ", offset as u16);
-    text::put_text(room, b, b"\n")
+    let a = text::put_pair(room, 0, b"refused ", number as u16, b" at ", offset as u16);
+    text::put_text(room, a, b"\n")
 }

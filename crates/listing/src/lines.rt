@@ -1,21 +1,28 @@
 // The lines of a listing.
 use crate::text::put_labelled;
+use crate::text::put_pair;
 use crate::text::put_text;
 ghost use mathlib.Core.Path.{_≡_};
 ghost use mathlib.Core.Bool.{true};
-ghost use Prim.Native.Nat.{_+_, _≤_, _<_, _^_};
+ghost use Prim.Native.Nat.{_+_, _*_, _≤_, _<_, _^_};
 ghost use lib.ListN.{length, getD};
 ghost use Rattle.state.specs.Sound.{soundRights};
-ghost use Rattle.listing.specs.Lines.{ending, countsLine, hostLine, interfaceLine, linesFrom};
+ghost use Rattle.listing.specs.Lines.{ending, countsLine, hostLine, interfaceLine, lineOf, lineCount, linesFrom};
 ghost use Rattle.listing.specs.Wrote.{Wrote};
 
 pub(crate) fn counts_line(rights: state::Rights, room: &mut [u8], at: usize) -> usize
     requires { ⌜ (at < 65536) × (at + 32 ≤ length (now room)) ⌝ }
     ensures { λ r. ⌜ Wrote (now (room .entry)) at (countsLine rights) r (now (room .exit)) ⌝ }
 {
-    let a = put_labelled(room, at, b"hosts ", rights.hosts);
-    let b = put_labelled(room, a, b" interfaces ", rights.interfaces);
-    put_text(room, b, b"\n")
+    let a = put_pair(
+        room,
+        at,
+        b"hosts ",
+        rights.hosts,
+        b" interfaces ",
+        rights.interfaces,
+    );
+    put_text(room, a, b"\n")
 }
 
 // A name at the end of a line.
@@ -35,23 +42,8 @@ fn host_line(rights: state::Rights, names: &[u8], room: &mut [u8], at: usize, i:
     let k = i as usize;
     let groups = rights.groups;
     let sizes = rights.sizes;
-    let a = put_labelled(room, at, b"host ", i + 1);
-    let b = put_labelled(room, a, b" group ", groups[k]);
-    put_ending(room, b, octets::part(names, 256 * k, sizes[k] as usize))
-}
-
-pub(crate) fn host_lines(rights: state::Rights, names: &[u8], room: &mut [u8], at: usize) -> usize
-    requires { ⌜ (soundRights rights ≡ true) × (at ≤ 22) × (11264 ≤ length (now room)) ⌝ }
-    ensures { λ r. ⌜ Wrote (now (room .entry)) at (linesFrom (hostLine rights (now (names .entry))) 0 (rights .hosts)) r (now (room .exit)) ⌝ }
-{
-    let n = rights.hosts;
-    let mut p = at;
-    let mut i: u16 = 0;
-    while i < n {
-        p = host_line(rights, names, room, p, i);
-        i += 1;
-    }
-    p
+    let a = put_pair(room, at, b"host ", i + 1, b" group ", groups[k]);
+    put_ending(room, a, octets::part(names, 256 * k, sizes[k] as usize))
 }
 
 fn interface_line(rights: state::Rights, labels: &[u8], room: &mut [u8], at: usize, i: u16) -> usize
@@ -62,26 +54,45 @@ fn interface_line(rights: state::Rights, labels: &[u8], room: &mut [u8], at: usi
     let commands = rights.commands;
     let entries = rights.entries;
     let spans = rights.spans;
-    let a = put_labelled(room, at, b"interface ", i + 1);
-    let b = put_labelled(room, a, b" commands ", commands[k]);
-    let c = put_labelled(room, b, b" entries ", entries[k]);
-    put_ending(room, c, octets::part(labels, 256 * k, spans[k] as usize))
+    let a = put_pair(room, at, b"interface ", i + 1, b" commands ", commands[k]);
+    let b = put_labelled(room, a, b" entries ", entries[k]);
+    put_ending(room, b, octets::part(labels, 256 * k, spans[k] as usize))
 }
 
-pub(crate) fn interface_lines(
+// Line i of the hosts (0) or of the interfaces (any other).
+fn put_line(
     rights: state::Rights,
-    labels: &[u8],
+    bytes: &[u8],
     room: &mut [u8],
     at: usize,
+    what: u8,
+    i: u16,
 ) -> usize
-    requires { ⌜ (soundRights rights ≡ true) × (at ≤ 8886) × (11264 ≤ length (now room)) ⌝ }
-    ensures { λ r. ⌜ Wrote (now (room .entry)) at (linesFrom (interfaceLine rights (now (labels .entry))) 0 (rights .interfaces)) r (now (room .exit)) ⌝ }
+    requires { ⌜ (soundRights rights ≡ true) × (i < lineCount what rights) × (at < 65536) × (at + 302 ≤ length (now room)) ⌝ }
+    ensures { λ r. ⌜ Wrote (now (room .entry)) at (lineOf what rights (now (bytes .entry)) i) r (now (room .exit)) ⌝ }
 {
-    let n = rights.interfaces;
+    if what == 0 {
+        return host_line(rights, bytes, room, at, i);
+    }
+    interface_line(rights, bytes, room, at, i)
+}
+
+// The first n of those lines: at most 292 bytes each.
+pub(crate) fn put_lines(
+    rights: state::Rights,
+    bytes: &[u8],
+    room: &mut [u8],
+    at: usize,
+    what: u8,
+    n: u16,
+) -> usize
+    requires { ⌜ (soundRights rights ≡ true) × (n ≤ lineCount what rights) × (at ≤ 8886) × (at + n * 292 + 10 ≤ length (now room)) ⌝ }
+    ensures { λ r. ⌜ Wrote (now (room .entry)) at (linesFrom (lineOf what rights (now (bytes .entry))) 0 n) r (now (room .exit)) ⌝ }
+{
     let mut p = at;
     let mut i: u16 = 0;
     while i < n {
-        p = interface_line(rights, labels, room, p, i);
+        p = put_line(rights, bytes, room, p, what, i);
         i += 1;
     }
     p

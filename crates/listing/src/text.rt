@@ -1,5 +1,6 @@
 // Text, a piece at a time: each function puts its piece into the room from `at` on and hands the place after it back.
 ghost use mathlib.Core.Path.{_≡_};
+ghost use mathlib.Core.List.{_++_};
 ghost use Prim.Native.Nat.{_+_, _≤_, _<_, _^_};
 ghost use lib.ListN.{length};
 ghost use Rattle.listing.specs.Decimal.{decimal};
@@ -65,4 +66,13 @@ pub(crate) fn put_labelled(room: &mut [u8], at: usize, x: &[u8], n: u16) -> usiz
 {
     let a = put_text(room, at, x);
     put_number(room, a, n)
+}
+
+// Two texts, each with a number after it.
+pub(crate) fn put_pair(room: &mut [u8], at: usize, x: &[u8], n: u16, y: &[u8], m: u16) -> usize
+    requires { ⌜ (at < 65536) × (length (now x) ≤ 64) × (length (now y) ≤ 64) × (at + length (now x) + length (now y) + 10 ≤ length (now room)) ⌝ }
+    ensures { λ r. ⌜ Wrote (now (room .entry)) at (labelled (now (x .entry)) n ++ labelled (now (y .entry)) m) r (now (room .exit)) ⌝ }
+{
+    let a = put_labelled(room, at, x, n);
+    put_labelled(room, a, y, m)
 }

@@ -6,22 +6,23 @@ use native.Mathlib.Omega.{arith}
 use borrow.Author.Tests.{lt-ltb, le-ltb}
 use Rattle.state.proofs.BelowLaws.{no, yes}
 use Rattle.state.proofs.SoundLaws.{sound-facts}
-use Rattle.listing.specs.Lines.{listingOf, renderRefusal}
+use Rattle.listing.specs.Lines.{lineOf, lineCount, listingOf, renderRefusal, renderLength, renderRoom}
 use Rattle.listing.proofs.LineLaws.{length-counts, length-hosts, length-interfaces}
 use Rattle.listing.proofs.PieceLaws.{wrote-length, wrote-then}
 use Rattle.listing.proofs.render.Statement.{statement}
 use Rattle.listing.proofs.render.Tie as tie
 
 returns : tie.Need-returns
-unfolding renderRefusal
+unfolding renderRefusal renderLength renderRoom
 returns c = rw (no (c .before .sound .ensures) (c .if1 .taken)) (refl, refl, refl)
 
 returns-2 : tie.Need-returns-2
-unfolding renderRefusal
+unfolding renderRefusal renderLength renderRoom
 returns-2 c = rw (yes (c .before .before .sound .ensures) (c .before .if1 .left), lt-ltb _ 11264 (c .if2 .taken)) (refl, refl, refl)
 
-host-lines-requires : tie.Need-host-lines-requires
-host-lines-requires c κs =
+put-lines-requires : tie.Need-put-lines-requires
+unfolding lineCount
+put-lines-requires c κs =
     let p = c .before .before .before in
     let e = p .before .before in
     let s = e .before .before in
@@ -32,10 +33,11 @@ host-lines-requires c κs =
     let f = sound-facts rights sound in
     let n = length-counts rights (f .hosts) (f .interfaces) in
     let t = e .if2 .left in
-    (sound, omega arith, omega arith)
+    (sound, omega arith, omega arith, omega arith)
 
-interface-lines-requires : tie.Need-interface-lines-requires
-interface-lines-requires c κs =
+put-lines-requires-2 : tie.Need-put-lines-requires-2
+unfolding lineOf lineCount
+put-lines-requires-2 c κs =
     let q = c .before .before .before in
     let p = q .before .before .before .before in
     let e = p .before .before in
@@ -44,16 +46,16 @@ interface-lines-requires c κs =
     let sound = yes (s .sound .ensures) (e .before .if1 .left) in
     let f = sound-facts (a .rights) sound in
     let w = p .counts-line .ensures in
-    let v = q .host-lines .ensures in
+    let v = q .put-lines .ensures in
     let l = wrote-length _ _ _ w in
     let m = wrote-length _ _ _ v in
     let n = length-counts (a .rights) (f .hosts) (f .interfaces) in
-    let h = length-hosts (a .rights) (a .names .now) sound (a .rights .hosts) (omega arith) in
+    let h = length-hosts (a .rights) sound (a .names .now) in
     let t = e .if2 .left in
-    (sound, omega arith, omega arith)
+    (sound, omega arith, omega arith, omega arith)
 
 returns-3 : tie.Need-returns-3
-unfolding renderRefusal listingOf
+unfolding renderRefusal renderLength renderRoom listingOf lineOf
 returns-3 c =
     let r = c .before .before in
     let q = r .before .before .before .before in
@@ -64,11 +66,11 @@ returns-3 c =
     let sound = yes (s .sound .ensures) (e .before .if1 .left) in
     let f = sound-facts (a .rights) sound in
     let w = p .counts-line .ensures in
-    let v = q .host-lines .ensures in
-    let u = r .interface-lines .ensures in
+    let v = q .put-lines .ensures in
+    let u = r .put-lines2 .ensures in
     let n = length-counts (a .rights) (f .hosts) (f .interfaces) in
-    let h = length-hosts (a .rights) (a .names .now) sound (a .rights .hosts) (omega arith) in
-    let i = length-interfaces (a .rights) (a .labels .now) sound (a .rights .interfaces) (omega arith) in
+    let h = length-hosts (a .rights) sound (a .names .now) in
+    let i = length-interfaces (a .rights) sound (a .labels .now) in
     let t = e .if2 .left in
     let x = wrote-then _ _ _ _ (wrote-then _ _ _ _ w v (omega arith)) u (omega arith) in
     rw (sound, le-ltb _ 11264 t) (refl, x .0 ∙ zero-add _, x .1)
@@ -76,5 +78,5 @@ returns-3 c =
 pub render-spec : {M : Type 1} → statement M
 render-spec =
     tie.close (tie.spec
-    (λ c κs. search needs) returns returns-2 (λ c κs. search needs) host-lines-requires interface-lines-requires
+    (λ c κs. search needs) returns returns-2 (λ c κs. search needs) put-lines-requires put-lines-requires-2
     (λ c. search needs) returns-3)

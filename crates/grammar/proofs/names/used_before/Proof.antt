@@ -1,34 +1,20 @@
 -- `names::used_before` meets its contract: no row passed has kind and name of row i.
 use mathlib.Core.Path.{_≡_, refl, sym, _∙_}
-use mathlib.Core.Logic.{⊎-elim}
-use mathlib.Core.Bool.{Bool, true, false, _&&_, _||_}
+use mathlib.Core.Bool.{false}
 use mathlib.Core.List.{List}
-use Prim.Native.Nat.{ℕ, zero, suc, _+_, _-_, _<_, _≤_}
-use native.Mathlib.Nat.{eq-or-lt-of-le, le-of-suc-le-suc, not-suc-le-zero}
+use Prim.Native.Nat.{ℕ, _+_, _-_, _≤_}
 use native.Mathlib.Numerals.{add-one}
 use native.Mathlib.Omega.{arith}
-use lib.Dec.{eqb}
 use borrow.Author.Needs.{needs}
-use Rattle.octets.specs.Same.{same}
-use Rattle.layout.specs.Layout.{kind, name}
 use Rattle.grammar.specs.Checks.{usedBelow}
-use Rattle.grammar.proofs.TestLaws.{or-right}
+use Rattle.grammar.proofs.TwinLaws.{twin, found}
 use Rattle.grammar.proofs.names.used_before.Statement.{statement}
 use Rattle.grammar.proofs.names.used_before.Tie as tie
 
 module _ (b : List ℕ) (i : ℕ) where
-  abbrev twin : ℕ → Bool
-  twin j = eqb (kind b j) (kind b i) && same (name b j) (name b i)
-
-  more : (j : ℕ) → usedBelow b i j ≡ false → twin j ≡ false → usedBelow b i (j + 1) ≡ false
+  more : (j : ℕ) → usedBelow b i j ≡ false → twin b i j ≡ false → usedBelow b i (j + 1) ≡ false
   unfolding usedBelow
   more j h e = rw (add-one, h) e
-
-  found : (n j : ℕ) → j < n → twin j ≡ true → usedBelow b i n ≡ true
-  unfolding usedBelow
-  found zero j l e = absurd (not-suc-le-zero l)
-  found (suc n) j l e =
-      ⊎-elim (λ q. or-right (usedBelow b i n) (twin n) (rw q at e)) (λ m. rw (found n j m e)) (eq-or-lt-of-le (le-of-suc-le-suc l))
 
 abbrev Inv-loop : tie.InvT-loop
 Inv-loop book i j₀ j = (j ≤ i) × (usedBelow book i j ≡ false)

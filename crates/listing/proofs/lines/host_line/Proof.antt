@@ -5,25 +5,17 @@ use Prim.Native.Nat.{_*_}
 use native.Mathlib.Omega.{arith}
 use lib.ListN.{length, getD}
 use Rattle.listing.specs.Lines.{hostText, groupText, hostLine}
-use Rattle.listing.proofs.LineLaws.{wrote-labelled, wrote-ending, part-within}
+use Rattle.listing.proofs.LineLaws.{wrote-pair, wrote-ending, part-within}
 use Rattle.listing.proofs.PieceLaws.{wrote-then}
 use Rattle.listing.proofs.lines.host_line.Statement.{statement}
 use Rattle.listing.proofs.lines.host_line.Tie as tie
 
-put-labelled-requires-2 : tie.Need-put-labelled-requires-2
-put-labelled-requires-2 c κs =
-    let p = c .before .before .before .before in
-    let l = wrote-labelled _ _ hostText _ (p .put-labelled .ensures) in
-    (omega arith, omega arith, omega arith)
-
 put-ending-requires : tie.Need-put-ending-requires
 put-ending-requires c κs =
-    let q = c .before .before .before .before in
-    let p = q .before .before .before .before .before in
-    let s = p .before .before .before .before .before .before .before in
+    let p = c .before .before .before .before in
+    let s = p .before .before .before .before .before .before .before .before in
     let h = s .pre in
-    let l = wrote-labelled _ _ hostText _ (p .put-labelled .ensures) in
-    let m = wrote-labelled _ _ groupText _ (q .put-labelled2 .ensures) in
+    let l = wrote-pair _ _ hostText _ groupText _ (p .put-pair .ensures) in
     let a = s .args in
     let n = part-within (a .names .now) (256 * a .i) (getD (a .rights .sizes) (a .i) 0) in
     let e = ap length (c .part .ensures) in
@@ -33,19 +25,17 @@ returns : tie.Need-returns
 unfolding hostLine
 returns c =
     let e = c .before .before in
-    let q = e .before .before .before .before .before in
-    let p = q .before .before .before .before .before in
-    let s = p .before .before .before .before .before .before .before in
+    let p = e .before .before .before .before .before in
+    let s = p .before .before .before .before .before .before .before .before in
     let h = s .pre in
-    let l = wrote-labelled _ _ hostText _ (p .put-labelled .ensures) in
-    let m = wrote-labelled _ _ groupText _ (q .put-labelled2 .ensures) in
+    let l = wrote-pair _ _ hostText _ groupText _ (p .put-pair .ensures) in
     let a = s .args in
     let w = wrote-ending _ _ (a .names .now) (256 * a .i) (getD (a .rights .sizes) (a .i) 0) (e .before .part .ensures) (e .put-ending .ensures) in
-    wrote-then _ _ _ _ (wrote-then _ _ _ _ (p .put-labelled .ensures) (q .put-labelled2 .ensures) (omega arith)) (w .1) (omega arith)
+    wrote-then _ _ _ _ (p .put-pair .ensures) (w .1) (omega arith)
 
 pub host-line-spec : {M : Type 1} → statement M
 host-line-spec =
     tie.close (tie.spec
-    (λ c. search needs) (λ c. search needs) (λ c κs. search needs) (λ c. search needs) (λ c. search needs) (λ c. search needs)
-    put-labelled-requires-2 (λ c. search needs) (λ c. search needs) (λ c. search needs) (λ c. search needs) (λ c κs. search needs)
+    (λ c. search needs) (λ c. search needs) (λ c. search needs) (λ c. search needs) (λ c. search needs) (λ c κs. search needs)
+    (λ c. search needs) (λ c. search needs) (λ c. search needs) (λ c. search needs) (λ c κs. search needs)
     put-ending-requires (λ c. search needs) returns)
