@@ -42,23 +42,35 @@ endChecks b i e =
     ∷ 44 at (row i + 8) when (eqb (i + 1) (rows b) && not (eqb e (total b)))
     ∷ []
 
--- "Then row by row: 43 kind, its order or its limit (row), id (row+2); 44 start (row+4), length out of range, past the total, or the last row
--- not ending there (row+8)."
-abbrev pub rowChecks : List ℕ → ℕ → List Check
-rowChecks b i =
+-- "Then row by row: 43 kind, its order or its limit (row), id (row+2)"
+abbrev pub identityChecks : List ℕ → ℕ → List Check
+identityChecks b i =
     43 at row i when not (kindFits (kind b i) i (hostsBefore b i))
     ∷ 43 at (row i + 2) when not (eqb (id b i) (ordinal (kind b i) i (hostsBefore b i)))
-    ∷ 44 at (row i + 4) when not (eqb (start b i) (expected b i))
+    ∷ []
+
+-- "44 start (row+4), length out of range, past the total, or the last row not ending there (row+8)"
+abbrev pub placeChecks : List ℕ → ℕ → List Check
+placeChecks b i =
+    44 at (row i + 4) when not (eqb (start b i) (expected b i))
     ∷ 44 at (row i + 8) when not (sizeFits (kind b i) (size b i))
     ∷ endChecks b i (start b i + size b i)
 
--- "45 command count (body+16), entry count, or entries that leave no name or one above 256 (body+18)"
+abbrev pub rowChecks : List ℕ → ℕ → List Check
+rowChecks b i = identityChecks b i ++ placeChecks b i
+
+-- "entries that leave no name or one above 256 (body+18)"
+abbrev pub spanChecks : List ℕ → ℕ → List Check
+spanChecks b i =
+    45 at (start b i + 18) when not (between (21 + 10 * entries b i) (276 + 10 * entries b i) (size b i))
+    ∷ []
+
+-- "45 command count (body+16), entry count (body+18)"
 abbrev pub countChecks : List ℕ → ℕ → List Check
 countChecks b i =
     45 at (start b i + 16) when not (between 1 64 (commands b i))
     ∷ 45 at (start b i + 18) when not (between 1 16 (entries b i))
-    ∷ 45 at (start b i + 18) when not (between (21 + 10 * entries b i) (276 + 10 * entries b i) (size b i))
-    ∷ []
+    ∷ spanChecks b i
 
 -- "46 a permitted bit at or above the command count (that word)": entry j
 abbrev pub wordChecks : List ℕ → ℕ → ℕ → List Check

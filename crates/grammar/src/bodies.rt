@@ -12,7 +12,7 @@ ghost use lib.Dec.{ltb};
 ghost use Rattle.grammar.specs.Names.{between};
 ghost use Rattle.layout.specs.Layout.{commands};
 ghost use Rattle.grammar.specs.Faults.{first, each};
-ghost use Rattle.grammar.specs.Checks.{countChecks, wordChecks, nameChecks, interfaceChecks, bodyChecks};
+ghost use Rattle.grammar.specs.Checks.{spanChecks, countChecks, wordChecks, nameChecks, interfaceChecks, bodyChecks};
 
 fn in_range(lo: usize, hi: usize, v: usize) -> bool
     ensures { λ r. ⌜ r ≡ between lo hi v ⌝ }
@@ -23,6 +23,17 @@ fn in_range(lo: usize, hi: usize, v: usize) -> bool
     v <= hi
 }
 
+// Whether an interface's entries leave a name of 1 to 256 bytes.
+fn judge_span(book: &[u8], i: u16) -> Fault
+    ensures { λ r. ⌜ r ≡ first (spanChecks (now (book .entry)) i) ⌝ }
+{
+    let e = layout::entries(book, i) as usize;
+    if !in_range(21 + 10 * e, 276 + 10 * e, layout::size(book, i)) {
+        return fault_at(COUNTS, layout::start(book, i) + 18);
+    }
+    no_fault()
+}
+
 fn judge_counts(book: &[u8], i: u16) -> Fault
     ensures { λ r. ⌜ r ≡ first (countChecks (now (book .entry)) i) ⌝ }
 {
@@ -30,14 +41,10 @@ fn judge_counts(book: &[u8], i: u16) -> Fault
     if !in_range(1, 64, layout::commands(book, i) as usize) {
         return fault_at(COUNTS, body + 16);
     }
-    let e = layout::entries(book, i) as usize;
-    if !in_range(1, 16, e) {
+    if !in_range(1, 16, layout::entries(book, i) as usize) {
         return fault_at(COUNTS, body + 18);
     }
-    if !in_range(21 + 10 * e, 276 + 10 * e, layout::size(book, i)) {
-        return fault_at(COUNTS, body + 18);
-    }
-    no_fault()
+    judge_span(book, i)
 }
 
 // Whether a word has no bit at or above c.

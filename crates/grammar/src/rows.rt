@@ -8,7 +8,7 @@ ghost use mathlib.Core.Path.{_≡_};
 ghost use Prim.Native.Nat.{_≤_, _<_, _^_};
 ghost use Rattle.layout.specs.Layout.{hostsBefore};
 ghost use Rattle.grammar.specs.Faults.{first, each};
-ghost use Rattle.grammar.specs.Checks.{kindFits, ordinal, sizeFits, endChecks, rowChecks};
+ghost use Rattle.grammar.specs.Checks.{kindFits, ordinal, sizeFits, endChecks, identityChecks, placeChecks, rowChecks};
 ghost use Rattle.layout.specs.Layout as L;
 
 // Whether row i may be of kind k where h of the rows before it are hosts.
@@ -67,10 +67,10 @@ fn expected(book: &[u8], i: u16) -> usize
     layout::start(book, i - 1) + layout::size(book, i - 1)
 }
 
-// Row i, h of the rows before it being hosts.
-fn judge_row(book: &[u8], i: u16, h: usize) -> Fault
+// Kind and id of row i, h of the rows before it being hosts.
+fn judge_identity(book: &[u8], i: u16, h: usize) -> Fault
     requires { ⌜ (h ≤ i) × (h ≡ hostsBefore (now book) i) ⌝ }
-    ensures { λ r. ⌜ r ≡ first (rowChecks (now (book .entry)) i) ⌝ }
+    ensures { λ r. ⌜ r ≡ first (identityChecks (now (book .entry)) i) ⌝ }
 {
     let at = 8 + 12 * i as usize;
     let k = layout::kind(book, i);
@@ -80,15 +80,35 @@ fn judge_row(book: &[u8], i: u16, h: usize) -> Fault
     if layout::id(book, i) != ordinal_of(k, i as usize, h) {
         return fault_at(KIND_OR_ID, at + 2);
     }
+    no_fault()
+}
+
+// Start and length of row i.
+fn judge_place(book: &[u8], i: u16) -> Fault
+    ensures { λ r. ⌜ r ≡ first (placeChecks (now (book .entry)) i) ⌝ }
+{
+    let at = 8 + 12 * i as usize;
     let start = layout::start(book, i);
     if start != expected(book, i) {
         return fault_at(START_OR_LENGTH, at + 4);
     }
     let size = layout::size(book, i);
-    if !size_fits(k, size) {
+    if !size_fits(layout::kind(book, i), size) {
         return fault_at(START_OR_LENGTH, at + 8);
     }
     judge_end(book, i, start + size)
+}
+
+// Row i, h of the rows before it being hosts.
+fn judge_row(book: &[u8], i: u16, h: usize) -> Fault
+    requires { ⌜ (h ≤ i) × (h ≡ hostsBefore (now book) i) ⌝ }
+    ensures { λ r. ⌜ r ≡ first (rowChecks (now (book .entry)) i) ⌝ }
+{
+    let f = judge_identity(book, i, h);
+    if f.number != 0 {
+        return f;
+    }
+    judge_place(book, i)
 }
 
 // Where body i ends: not past the total, and the last one there.

@@ -20,9 +20,8 @@ returns c =
 
 returns-2 : tie.Need-returns-2
 returns-2 c =
-    let i1 = c .before in
-    let a = i1 .before .before .before .args in
-    rw (narrow-ones (a .capability .now) (a .word) (a .room .now) (i1 .if1 .left) (c .if2 .taken)) (refl, refl)
+    let a = c .before .before .before .before .args in
+    rw (narrow-ones (a .capability .now) (a .word) (a .room .now) (c .before .if1 .left) (c .if2 .taken)) (refl, refl)
 
 returns-3 : tie.Need-returns-3
 returns-3 c =

@@ -1,5 +1,7 @@
 -- `bodies::judge_counts` meets its contract: each return after the tests that led there.
 use borrow.Author.Needs.{needs}
+use mathlib.Core.Path.{sym, ap, _∙_}
+use Rattle.grammar.specs.Names.{between}
 use Rattle.grammar.specs.Faults.{first}
 use Rattle.grammar.proofs.TestLaws.{no, yes}
 use Rattle.grammar.proofs.bodies.judge_counts.Statement.{statement}
@@ -27,39 +29,17 @@ returns-2 c =
 returns-3 : tie.Need-returns-3
 unfolding first
 returns-3 c =
-    let p = c .before .before in
-    let q = p .before .before .before in
+    let q = c .before .before in
     let r = q .before .before .before in
     rw (
-      ← r .before .before .start .ensures .0,
       ← r .before .commands .ensures,
-      ← q .before .entries .ensures,
-      ← p .before .size .ensures .0,
       yes (r .in-range .ensures) (q .before .before .if1 .left),
-      yes (q .in-range2 .ensures) (p .before .before .if2 .left),
-      no (p .in-range3 .ensures) (c .before .if3 .taken),
-    ) (c .fault-at3 .ensures)
-
-returns-4 : tie.Need-returns-4
-unfolding first
-returns-4 c =
-    let p = c .before .before in
-    let q = p .before .before .before in
-    let r = q .before .before .before in
-    rw (
-      ← r .before .before .start .ensures .0,
-      ← r .before .commands .ensures,
-      ← q .before .entries .ensures,
-      ← p .before .size .ensures .0,
-      yes (r .in-range .ensures) (q .before .before .if1 .left),
-      yes (q .in-range2 .ensures) (p .before .before .if2 .left),
-      yes (p .in-range3 .ensures) (c .before .if3 .left),
-    ) (c .no-fault .ensures)
+      sym (ap (between 1 16) (q .before .entries .ensures)) ∙ yes (q .in-range2 .ensures) (c .before .if2 .left),
+    ) (c .judge-span .ensures)
 
 pub judge-counts-spec : {M : Type 1} → statement M
 judge-counts-spec =
     tie.close (tie.spec
     (λ c κs. search needs) (λ c κs. search needs) (λ c. search needs) (λ c κs. search needs) (λ c. search needs) (λ c κs. search needs)
     returns (λ c κs. search needs) (λ c. search needs) (λ c κs. search needs) (λ c. search needs) (λ c κs. search needs)
-    returns-2 (λ c. search needs) (λ c. search needs) (λ c. search needs) (λ c. search needs) (λ c κs. search needs)
-    (λ c κs. search needs) (λ c. search needs) (λ c κs. search needs) returns-3 (λ c κs. search needs) returns-4)
+    returns-2 (λ c κs. search needs) returns-3)
