@@ -11,11 +11,11 @@ use borrow.Author.Tests.{eqb-true, eqb-false, eq-eqb, ne-eqb}
 use lib.Dec.{eqb}
 use lib.ListN.{length}
 use Rattle.octets.specs.Checks.{pick}
+use Rattle.octets.specs.Range.{between}
 use Rattle.octets.proofs.RoomLaws.{length-part}
+use Rattle.octets.proofs.RangeLaws.{between-both}
 use Rattle.layout.specs.Layout.{rows, kind, start, size, lead, nameStart, name, secret, commands, entries, word, hostsBefore}
 use Rattle.grammar.specs.Checks.{faultOf, sizeFits}
-use Rattle.grammar.specs.Names.{between}
-use Rattle.grammar.proofs.TestLaws.{between-both}
 use Rattle.grammar.proofs.HostLaws.{hosts-host}
 use Rattle.grammar.proofs.GoodLaws.{good-host, good-length, good-end, good-commands, good-entries, good-room, good-word, good-counts}
 use Rattle.state.proofs.BelowLaws.{Within}

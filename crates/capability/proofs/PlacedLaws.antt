@@ -1,9 +1,9 @@
--- Byte strings placed one after the other are placed as one, one as long as the room is the room, and a number's bytes in a block of zeros.
-use mathlib.Core.Path.{_≡_, sym, ap, _∙_}
-use mathlib.Core.List.{List, _++_, append-assoc, append-nil}
+-- Byte strings placed one after the other are placed as one, and a number's bytes in a block of zeros.
+use mathlib.Core.Path.{_≡_, sym, _∙_}
+use mathlib.Core.List.{List, _++_, append-assoc}
 use Prim.Native.Nat.{ℕ, _+_, _≤_}
 use native.Mathlib.Omega.{arith}
-use lib.ListN.{length, take, drop, replicate, length-append, drop-of-length-le}
+use lib.ListN.{length, take, drop, replicate, length-append}
 use Rattle.octets.specs.Little.{octets}
 use Rattle.octets.specs.Room.{placed}
 use Rattle.octets.proofs.LittleLaws.{length-octets}
@@ -21,10 +21,6 @@ placed-placed d at x y h =
 pub placed-next : (d : List ℕ) (at : ℕ) (x : List ℕ) (n : ℕ) (y : List ℕ) → at + length x ≡ n → n + length y ≤ length d
     → placed (placed d at x) n y ≡ placed d at (x ++ y)
 placed-next d at x n y e h = rw (← e) (placed-placed d at x y (omega arith))
-
-pub placed-whole : (d x : List ℕ) → length x ≡ length d → placed d 0 x ≡ x
-placed-whole d x e =
-    placed-start d x (omega arith) ∙ ap (λ (l : List ℕ). x ++ l) (drop-of-length-le d {i = length x} (omega arith)) ∙ append-nil x
 
 pub block-start : (k n : ℕ) → k ≤ 16 → placed (replicate 16 0) 0 (octets k n) ≡ octets k n ++ drop k (replicate 16 0)
 block-start k n h =

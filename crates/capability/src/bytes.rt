@@ -1,20 +1,10 @@
 // A capability's bytes and words.
 ghost use mathlib.Core.Path.{_≡_};
-ghost use Prim.Native.Nat.{_+_, _≤_, _<_};
+ghost use Prim.Native.Nat.{_≤_, _<_};
 ghost use lib.ListN.{length};
-ghost use Rattle.octets.specs.Room.{part, placed};
+ghost use Rattle.octets.specs.Room.{placed};
 ghost use Rattle.capability.specs.Rights.{allows, permitted};
 ghost use Rattle.capability.specs.Bytes as B;
-
-// Sixteen bytes from `at` on.
-pub(crate) fn sixteen(s: &[u8], at: usize) -> [u8; 16]
-    requires { ⌜ at + 16 ≤ length (now s) ⌝ }
-    ensures { λ r. ⌜ r ≡ part (now (s .entry)) at 16 ⌝ }
-{
-    let mut out = [0u8; 16];
-    octets::put(&mut out, 0, octets::part(s, at, 16));
-    out
-}
 
 // Four words from `at` on.
 pub(crate) fn four_at(s: &[u8], at: usize) -> [u64; 4]

@@ -35,7 +35,7 @@ pub fn issue(master: &[u8], id: u16, room: &mut [u8]) -> Answer
     if room.len() < 50 {
         return Answer { number: ROOM_SHORT, blocks: 0 };
     }
-    let secret = chain::first_secret(bytes::sixteen(master, 0), id);
+    let secret = chain::first_secret(octets::sixteen(master, 0), id);
     let ones = 0xffff_ffff_ffff_ffff;
     bytes::put_capability(room, id, [ones, ones, ones, ones], secret);
     Answer { number: 0, blocks: 1 }
@@ -59,7 +59,7 @@ pub fn narrow(capability: &[u8], word: u64, room: &mut [u8]) -> Answer
     if room.len() < 50 {
         return Answer { number: ROOM_SHORT, blocks: 0 };
     }
-    let held = bytes::sixteen(capability, 34);
+    let held = octets::sixteen(capability, 34);
     let secret = chain::next_secret(held, word);
     let id = octets::u16_at(capability, 0);
     bytes::put_capability(room, id, bytes::narrow_words(words, word), secret);

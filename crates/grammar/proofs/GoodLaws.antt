@@ -13,12 +13,13 @@ use borrow.Author.Tests.{ltb-true, ltb-false, eqb-true, eqb-false, eq-eqb, ne-eq
 use Rattle.octets.specs.Checks.{pick, isZero}
 use Rattle.octets.proofs.CheckLaws.{and-left, and-right}
 use Rattle.octets.proofs.SameLaws.{same-refl}
+use Rattle.octets.proofs.RangeLaws.{between-both}
 use Rattle.layout.specs.Layout.{format, rows, total, row, kind, id, start, size, hostsBefore, expected, commands, entries, word, nameStart, name}
 use Rattle.grammar.specs.Names.{fitting}
 use Rattle.grammar.specs.Faults.{Check, _at_when_, one, first, each, _else_, none}
 use Rattle.grammar.specs.Checks.{headChecks, kindFits, ordinal, sizeFits, rowChecks, countChecks, wordChecks, letterChecks, usedBelow, nameChecks, interfaceChecks, bodyChecks, faultOf}
 use Rattle.grammar.specs.declared.Fault.{Fault}
-use Rattle.grammar.proofs.TestLaws.{or-none, between-both}
+use Rattle.grammar.proofs.TestLaws.{or-none}
 use Rattle.grammar.proofs.TwinLaws.{found}
 use Rattle.grammar.proofs.HostLaws.{hosts-host, hosts-other}
 use Rattle.grammar.proofs.FaultLaws.{else-stop, else-go, first-append}

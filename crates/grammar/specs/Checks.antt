@@ -6,8 +6,9 @@ use lib.Dec.{leb, ltb, eqb}
 use lib.ListN.{length}
 use Rattle.octets.specs.Checks.{pick}
 use Rattle.octets.specs.Same.{same}
+use Rattle.octets.specs.Range.{between}
 use Rattle.layout.specs.Layout.{format, rows, total, row, kind, id, start, size, hostsBefore, expected, commands, entries, word, nameStart, name}
-use Rattle.grammar.specs.Names.{between, fitting}
+use Rattle.grammar.specs.Names.{fitting}
 use Rattle.grammar.specs.Faults.{Check, _at_when_, first, each}
 use Rattle.grammar.specs.declared.Fault.{Fault}
 

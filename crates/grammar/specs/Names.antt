@@ -2,12 +2,9 @@
 use Prim.Native.Nat.{ℕ, suc}
 use mathlib.Core.Bool.{Bool, _&&_, _||_}
 use mathlib.Core.List.{List}
-use lib.Dec.{leb, ltb, eqb}
+use lib.Dec.{ltb, eqb}
 use lib.ListN.{length, getD}
-
--- from lo to hi
-abbrev pub between : ℕ → ℕ → ℕ → Bool
-between lo hi c = leb lo c && leb c hi
+use Rattle.octets.specs.Range.{between}
 
 -- A to Z, a to z, 0 to 9, - _ + . /
 unfoldable pub letter : ℕ → Bool

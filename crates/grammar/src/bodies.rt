@@ -7,28 +7,15 @@ use crate::fault_at;
 use crate::names;
 use crate::no_fault;
 ghost use mathlib.Core.Path.{_≡_};
-ghost use Prim.Native.Nat.{_≤_, _^_};
-ghost use lib.Dec.{ltb};
-ghost use Rattle.grammar.specs.Names.{between};
-ghost use Rattle.layout.specs.Layout.{commands};
 ghost use Rattle.grammar.specs.Faults.{first, each};
 ghost use Rattle.grammar.specs.Checks.{spanChecks, countChecks, wordChecks, nameChecks, interfaceChecks, bodyChecks};
-
-fn in_range(lo: usize, hi: usize, v: usize) -> bool
-    ensures { λ r. ⌜ r ≡ between lo hi v ⌝ }
-{
-    if v < lo {
-        return false;
-    }
-    v <= hi
-}
 
 // Whether an interface's entries leave a name of 1 to 256 bytes.
 fn judge_span(book: &[u8], i: u16) -> Fault
     ensures { λ r. ⌜ r ≡ first (spanChecks (now (book .entry)) i) ⌝ }
 {
     let e = layout::entries(book, i) as usize;
-    if !in_range(21 + 10 * e, 276 + 10 * e, layout::size(book, i)) {
+    if !octets::between(21 + 10 * e, 276 + 10 * e, layout::size(book, i)) {
         return fault_at(COUNTS, layout::start(book, i) + 18);
     }
     no_fault()
@@ -38,36 +25,24 @@ fn judge_counts(book: &[u8], i: u16) -> Fault
     ensures { λ r. ⌜ r ≡ first (countChecks (now (book .entry)) i) ⌝ }
 {
     let body = layout::start(book, i);
-    if !in_range(1, 64, layout::commands(book, i) as usize) {
+    if !octets::between(1, 64, layout::commands(book, i) as usize) {
         return fault_at(COUNTS, body + 16);
     }
-    if !in_range(1, 16, layout::entries(book, i) as usize) {
+    if !octets::between(1, 16, layout::entries(book, i) as usize) {
         return fault_at(COUNTS, body + 18);
     }
     judge_span(book, i)
 }
 
-// Whether a word has no bit at or above c.
-fn word_fits(word: u64, c: u16) -> bool
-    requires { ⌜ c ≤ 64 ⌝ }
-    ensures { λ r. ⌜ r ≡ ltb word (2 ^ c) ⌝ }
-{
-    if c < 64 {
-        return word >> c == 0;
-    }
-    true
-}
-
 // The words of e entries.
 fn judge_words(book: &[u8], i: u16, e: u16) -> Fault
-    requires { ⌜ commands (now book) i ≤ 64 ⌝ }
     ensures { λ r. ⌜ r ≡ first (each (wordChecks (now (book .entry)) i) 0 e) ⌝ }
 {
     let c = layout::commands(book, i);
     let body = layout::start(book, i);
     let mut j: u16 = 0;
     while j < e {
-        if !word_fits(layout::word(book, i, j), c) {
+        if !octets::word_fits(layout::word(book, i, j), c) {
             return fault_at(PERMITTED, body + 22 + 10 * j as usize);
         }
         j += 1;

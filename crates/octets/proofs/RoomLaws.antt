@@ -2,16 +2,16 @@
 -- as it was. Its length is never changed.
 use mathlib.Core.Path.{_≡_, refl, sym, ap, _∙_}
 use mathlib.Core.Bool.{Bool, true, false}
-use mathlib.Core.List.{List, [], _∷_, _++_, append-assoc}
+use mathlib.Core.List.{List, [], _∷_, _++_, append-assoc, append-nil}
 use Prim.Native.Nat.{ℕ, zero, suc, _+_, _-_, _<_, _≤_}
 use native.Mathlib.Nat.{zero-add, suc-add}
 use native.Mathlib.Omega.{arith}
 use borrow.Author.Tests.{le-leb, lt-leb, leb-true, leb-false}
 use lib.Dec.{leb}
-use lib.ListN.{length, take, drop, length-drop, drop-of-length-le}
+use lib.ListN.{length, take, drop, replicate, length-append, length-take, length-drop, drop-of-length-le}
 use lib.Seq.{take-all, take-length, take-nil, take-take, drop-drop, drop-at, take-append-le, length-take-le, paste, length-paste, take-paste, drop-paste}
 use Rattle.octets.specs.Checks.{pick}
-use Rattle.octets.specs.Room.{part, over, placed, atStart}
+use Rattle.octets.specs.Room.{part, over, placed, atStart, sixteenAt}
 
 -- the rest of a slice that is lent as `&s[at..]`
 pub part-rest : (s : List ℕ) (at : ℕ) → part s at (length s - at) ≡ drop at s
@@ -92,3 +92,17 @@ module _ (d : List ℕ) (at : ℕ) (x : List ℕ) where
 
 pub placed-start : (d x : List ℕ) → length x ≤ length d → placed d 0 x ≡ atStart x d
 placed-start d x h = rw (placed-fits d 0 x (omega arith), zero-add)
+
+-- the sixteen bytes that a room of as many zeros holds once the part was placed
+module _ (s : List ℕ) (at : ℕ) where
+  pub sixteen-placed : placed (replicate 16 0) 0 (part s at 16) ≡ sixteenAt s at
+  unfolding sixteenAt
+  sixteen-placed = placed-start (replicate 16 0) (part s at 16) (omega (arith, length-take 16 (drop at s)))
+
+  pub length-sixteen : length (sixteenAt s at) ≡ 16
+  length-sixteen = rw (← sixteen-placed) (length-placed (replicate 16 0) 0 (part s at 16))
+
+  -- where the string reaches there, they are its own
+  pub sixteen-there : at + 16 ≤ length s → sixteenAt s at ≡ part s at 16
+  unfolding sixteenAt
+  sixteen-there h = rw (length-part s at 16 h) (append-nil (part s at 16))

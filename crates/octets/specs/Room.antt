@@ -3,7 +3,7 @@ use Prim.Native.Nat.{ℕ, _+_}
 use mathlib.Core.Bool.{Bool}
 use mathlib.Core.List.{List, _++_}
 use lib.Dec.{leb}
-use lib.ListN.{length, take, drop}
+use lib.ListN.{length, take, drop, replicate}
 use Rattle.octets.specs.Checks.{pick}
 use Rattle.octets.specs.Little.{number}
 
@@ -30,3 +30,7 @@ fits x room = leb (length x) (length room)
 -- x at the start of the room, the rest as it was
 abbrev pub atStart : List ℕ → List ℕ → List ℕ
 atStart x room = x ++ drop (length x) room
+
+-- sixteen bytes of s from `at` on: what s doesn't reach counts as 0
+unfoldable pub sixteenAt : List ℕ → ℕ → List ℕ
+sixteenAt s at = atStart (part s at 16) (replicate 16 0)

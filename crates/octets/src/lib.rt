@@ -1,10 +1,13 @@
-// Bytes: numbers read and placed, a part placed in a room, comparison without an early exit.
+// Bytes: numbers read and placed, a part placed in a room, comparison without an early exit; numbers in a range, and words that fit.
 //
 // Document 01: "All numbers of ours are little-endian." Every function takes all inputs: what is read past the end of a
 // slice counts as no byte, and what doesn't fit a room isn't placed.
 ghost use mathlib.Core.Path.{_≡_};
+ghost use Prim.Native.Nat.{_^_};
+ghost use lib.Dec.{ltb};
 ghost use Rattle.octets.specs.Little.{octets};
-ghost use Rattle.octets.specs.Room.{part, numberAt, placed};
+ghost use Rattle.octets.specs.Room.{part, numberAt, placed, sixteenAt};
+ghost use Rattle.octets.specs.Range.{between};
 ghost use Rattle.octets.specs.Same.{same};
 
 // The `size` bytes of s from `at` on, or as many of them as there are.
@@ -76,6 +79,15 @@ pub fn put(room: &mut [u8], at: usize, x: &[u8])
         room[at + i] = x[i];
         i += 1;
     }
+}
+
+// Sixteen bytes from `at` on; what the string doesn't reach counts as 0.
+pub fn sixteen(s: &[u8], at: usize) -> [u8; 16]
+    ensures { λ r. ⌜ r ≡ sixteenAt (now (s .entry)) at ⌝ }
+{
+    let mut out = [0u8; 16];
+    put(&mut out, 0, part(s, at, 16));
+    out
 }
 
 // The two bytes of n.
@@ -158,4 +170,21 @@ pub fn equal(a: &[u8], b: &[u8]) -> bool
         i += 1;
     }
     differ == 0
+}
+
+// Whether v is from lo to hi.
+pub fn between(lo: usize, hi: usize, v: usize) -> bool
+    ensures { λ r. ⌜ r ≡ between lo hi v ⌝ }
+{
+    if lo <= v { v <= hi } else { false }
+}
+
+// Whether a word has no bit at or above c: every word is below 2 ^ 64.
+pub fn word_fits(word: u64, c: u16) -> bool
+    ensures { λ r. ⌜ r ≡ ltb word (2 ^ c) ⌝ }
+{
+    if c < 64 {
+        return word >> c == 0;
+    }
+    true
 }

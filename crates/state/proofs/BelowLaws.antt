@@ -7,11 +7,10 @@ use Prim.Native.Nat.{ℕ, zero, suc, _+_, _≤_, _<_}
 use native.Mathlib.Nat.{eq-or-lt-of-le, le-of-suc-le-suc, not-suc-le-zero}
 use native.Mathlib.Numerals.{add-one}
 use native.Mathlib.Omega.{arith}
-use lib.Dec.{leb}
-use borrow.Author.Tests.{le-leb, leb-true, not-true, not-false}
+use borrow.Author.Tests.{not-true, not-false}
 use Rattle.octets.specs.Checks.{pick}
 use Rattle.octets.proofs.CheckLaws.{and-left, and-right, and-both}
-use Rattle.state.specs.Sound.{allBelow, within}
+use Rattle.state.specs.Sound.{allBelow}
 
 pub no : {r b : Bool} → r ≡ b → not r ≡ true → b ≡ false
 no {r} e t = sym e ∙ not-true r t
@@ -67,12 +66,3 @@ module _ (f : ℕ → Bool) where
 
 abbrev pub Within : ℕ → ℕ → Type 0
 Within most v = (1 ≤ v) × (v ≤ most)
-
-module _ (most v : ℕ) where
-  pub within-of : within most v ≡ true → Within most v
-  unfolding within
-  within-of h = (leb-true 1 v (and-left (leb 1 v) (leb v most) h), leb-true v most (and-right (leb 1 v) (leb v most) h))
-
-  pub of-within : Within most v → within most v ≡ true
-  unfolding within
-  of-within h = and-both (leb 1 v) (leb v most) (le-leb 1 v (h .0)) (le-leb v most (h .1))

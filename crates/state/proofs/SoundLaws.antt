@@ -10,11 +10,13 @@ use borrow.Author.Tests.{lt-ltb, ltb-true, le-leb, leb-true}
 use lib.Dec.{leb, ltb}
 use lib.ListN.{length, getD, set}
 use lib.Seq.{getD-set-same, getD-set-other}
+use Rattle.octets.specs.Range.{between}
 use Rattle.octets.proofs.CheckLaws.{and-left, and-right, and-both}
+use Rattle.octets.proofs.RangeLaws.{between-both, both-between}
 use Rattle.state.specs.declared.Rights.{Rights}
-use Rattle.state.specs.Sound.{within, allWithin, allWords, interfaceSound, allInterfaces, soundRights}
+use Rattle.state.specs.Sound.{allWithin, allWords, interfaceSound, allInterfaces, soundRights}
 use Rattle.state.specs.Flat.{withWords, withWord, noRights}
-use Rattle.state.proofs.BelowLaws.{pick-ind, Within, within-of, of-within, below-all, all-below}
+use Rattle.state.proofs.BelowLaws.{pick-ind, Within, below-all, all-below}
 
 -- one interface
 pub record InterfaceFacts (ws : List ℕ) (from n c e : ℕ) : Type 0 where
@@ -27,18 +29,18 @@ module _ (ws : List ℕ) (from n c e : ℕ) where
   pub interface-facts : interfaceSound ws from n c e ≡ true → InterfaceFacts ws from n c e
   unfolding interfaceSound allWords
   interface-facts h =
-      let m = and-right (within 256 n) _ h in
-      let k = and-right (within 64 c) _ m in record {
-        span = within-of 256 n (and-left _ _ h);
-        commands = within-of 64 c (and-left _ _ m);
-        entries = within-of 16 e (and-left _ _ k);
-        word = λ j l. ltb-true _ _ (below-all _ e (and-right (within 16 e) _ k) j l);
+      let m = and-right (between 1 256 n) _ h in
+      let k = and-right (between 1 64 c) _ m in record {
+        span = between-both 1 256 n (and-left _ _ h);
+        commands = between-both 1 64 c (and-left _ _ m);
+        entries = between-both 1 16 e (and-left _ _ k);
+        word = λ j l. ltb-true _ _ (below-all _ e (and-right (between 1 16 e) _ k) j l);
       }
 
   pub of-interface : InterfaceFacts ws from n c e → interfaceSound ws from n c e ≡ true
   unfolding interfaceSound allWords
   of-interface f =
-      and-both _ _ (of-within 256 n (f .span)) (and-both _ _ (of-within 64 c (f .commands)) (and-both _ _ (of-within 16 e (f .entries))
+      and-both _ _ (both-between 1 256 n (f .span)) (and-both _ _ (both-between 1 64 c (f .commands)) (and-both _ _ (both-between 1 16 e (f .entries))
       (all-below _ e (λ j l. lt-ltb _ _ (f .word j l)))))
 
 pub record Facts (s : Rights) : Type 0 where
@@ -57,7 +59,7 @@ module _ (s : Rights) where
       let e = and-right (allWithin (s .sizes) 256 (s .hosts)) _ n in record {
         hosts = leb-true _ _ (and-left _ _ h);
         interfaces = leb-true _ _ (and-left _ _ m);
-        size = λ i l. within-of _ _ (below-all _ (s .hosts) (and-left _ _ n) i l);
+        size = λ i l. between-both _ _ _ (below-all _ (s .hosts) (and-left _ _ n) i l);
         interface = λ i l. interface-facts _ _ _ _ _ (below-all _ (s .interfaces) e i l);
       }
 
@@ -65,7 +67,7 @@ module _ (s : Rights) where
   unfolding soundRights allWithin allInterfaces
   of-sound f =
       and-both _ _ (le-leb _ _ (f .hosts)) (and-both _ _ (le-leb _ _ (f .interfaces))
-      (and-both _ _ (all-below _ (s .hosts) (λ i l. of-within _ _ (f .size i l)))
+      (and-both _ _ (all-below _ (s .hosts) (λ i l. both-between _ _ _ (f .size i l)))
       (all-below _ (s .interfaces) (λ i l. of-interface _ _ _ _ _ (f .interface i l)))))
 
 pub sound-none : soundRights noRights ≡ true

@@ -6,6 +6,7 @@ use mathlib.Core.List.{List}
 use Prim.Native.Nat.{ℕ, zero, suc, _+_, _*_, _^_}
 use lib.Dec.{leb, ltb}
 use lib.ListN.{getD}
+use Rattle.octets.specs.Range.{between}
 use Rattle.state.specs.declared.Rights.{Rights}
 
 -- a test passes at each number below n
@@ -13,13 +14,9 @@ unfoldable pub allBelow : (ℕ → Bool) → ℕ → Bool
 allBelow f zero = true
 allBelow f (suc n) = allBelow f n && f n
 
--- from 1 to most
-unfoldable pub within : ℕ → ℕ → Bool
-within most v = leb 1 v && leb v most
-
 -- the first n values are each from 1 to most
 unfoldable pub allWithin : List ℕ → ℕ → ℕ → Bool
-allWithin vs most n = allBelow (λ i. within most (getD vs i 0)) n
+allWithin vs most n = allBelow (λ i. between 1 most (getD vs i 0)) n
 
 -- e words from a place on have no bit at or above c: they are below 2 ^ c
 unfoldable pub allWords : List ℕ → ℕ → ℕ → ℕ → Bool
@@ -27,7 +24,7 @@ allWords ws from c e = allBelow (λ j. ltb (getD ws (from + j) 0) (2 ^ c)) e
 
 -- one interface: name length 1 to 256, command count 1 to 64, entry count 1 to 16, and its words
 unfoldable pub interfaceSound : List ℕ → ℕ → ℕ → ℕ → ℕ → Bool
-interfaceSound ws from span c e = within 256 span && (within 64 c && (within 16 e && allWords ws from c e))
+interfaceSound ws from span c e = between 1 256 span && (between 1 64 c && (between 1 16 e && allWords ws from c e))
 
 unfoldable pub allInterfaces : List ℕ → List ℕ → List ℕ → List ℕ → ℕ → Bool
 allInterfaces ws spans cs es n = allBelow (λ i. interfaceSound ws (i * 16) (getD spans i 0) (getD cs i 0) (getD es i 0)) n

@@ -5,8 +5,7 @@ use crate::transitions::Phase;
 use crate::transitions::Record;
 ghost use mathlib.Core.Path.{_≡_};
 ghost use Prim.Native.Nat.{_+_, _≤_};
-ghost use lib.ListN.{length};
-ghost use Rattle.octets.specs.Room.{part, over};
+ghost use Rattle.octets.specs.Room.{over};
 ghost use Rattle.state.specs.Records.{phaseOf, tagOf, lastOf};
 ghost use Rattle.state.specs.Flat.{recordOf, withRecord, withWord, noRights, idleRecords};
 
@@ -51,20 +50,6 @@ fn last_of(phase: Phase) -> u16
     }
 }
 
-// The sixteen bytes of a flat array from `at` on.
-fn sixteen(bytes: &[u8], at: usize) -> [u8; 16]
-    requires { ⌜ at + 16 ≤ length (now bytes) ⌝ }
-    ensures { λ r. ⌜ r ≡ part (now (bytes .entry)) at 16 ⌝ }
-{
-    let mut out = [0u8; 16];
-    let mut i: usize = 0;
-    while i < 16 {
-        out[i] = bytes[at + i];
-        i += 1;
-    }
-    out
-}
-
 // A flat array with sixteen bytes in it from `at` on.
 fn with_sixteen(bytes: [u8; 512], at: usize, x: [u8; 16]) -> [u8; 512]
     requires { ⌜ at + 16 ≤ 512 ⌝ }
@@ -91,8 +76,8 @@ pub fn record_at(records: Records, i: usize) -> Record
     let challenges = records.challenges;
     let keys = records.keys;
     let phase = phase_at(tags[i], lasts[i]);
-    let challenge = sixteen(&challenges, i * 16);
-    let key = sixteen(&keys, i * 16);
+    let challenge = octets::sixteen(&challenges, i * 16);
+    let key = octets::sixteen(&keys, i * 16);
     Record {
         phase: phase,
         challenge: challenge,

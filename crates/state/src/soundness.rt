@@ -2,40 +2,18 @@
 // word has a bit at or above its command count. What lies beyond a count isn't judged.
 use crate::Rights;
 ghost use mathlib.Core.Path.{_≡_};
-ghost use Prim.Native.Nat.{_+_, _*_, _≤_, _^_};
-ghost use lib.Dec.{ltb};
+ghost use Prim.Native.Nat.{_+_, _*_, _≤_};
 ghost use lib.ListN.{length};
-ghost use Rattle.state.specs.Sound.{within, allWithin, allWords, interfaceSound, allInterfaces, soundRights};
-
-// Whether v is from 1 to most.
-fn in_range(v: u16, most: u16) -> bool
-    ensures { λ r. ⌜ r ≡ within most v ⌝ }
-{
-    if v < 1 {
-        return false;
-    }
-    v <= most
-}
-
-// Whether a word has no bit at or above the command count.
-fn word_fits(word: u64, commands: u16) -> bool
-    requires { ⌜ commands ≤ 64 ⌝ }
-    ensures { λ r. ⌜ r ≡ ltb word (2 ^ commands) ⌝ }
-{
-    if commands < 64 {
-        return word >> commands == 0;
-    }
-    true
-}
+ghost use Rattle.state.specs.Sound.{allWithin, allWords, interfaceSound, allInterfaces, soundRights};
 
 // Whether the first n of the values are each from 1 to most.
-fn all_within(values: &[u16], n: usize, most: u16) -> bool
+fn all_within(values: &[u16], n: usize, most: usize) -> bool
     requires { ⌜ n ≤ length (now values) ⌝ }
     ensures { λ r. ⌜ r ≡ allWithin (now (values .entry)) most n ⌝ }
 {
     let mut i: usize = 0;
     while i < n {
-        if !in_range(values[i], most) {
+        if !octets::between(1, most, values[i] as usize) {
             return false;
         }
         i += 1;
@@ -45,12 +23,12 @@ fn all_within(values: &[u16], n: usize, most: u16) -> bool
 
 // Whether the words of one interface, from a place on, have no bit at or above its command count.
 fn all_words(words: &[u64], from: usize, commands: u16, entries: usize) -> bool
-    requires { ⌜ (from + entries ≤ length (now words)) × (commands ≤ 64) ⌝ }
+    requires { ⌜ from + entries ≤ length (now words) ⌝ }
     ensures { λ r. ⌜ r ≡ allWords (now (words .entry)) from commands entries ⌝ }
 {
     let mut j: usize = 0;
     while j < entries {
-        if !word_fits(words[from + j], commands) {
+        if !octets::word_fits(words[from + j], commands) {
             return false;
         }
         j += 1;
@@ -62,13 +40,13 @@ fn interface_sound(words: &[u64], from: usize, span: u16, commands: u16, entries
     requires { ⌜ from + 16 ≤ length (now words) ⌝ }
     ensures { λ r. ⌜ r ≡ interfaceSound (now (words .entry)) from span commands entries ⌝ }
 {
-    if !in_range(span, 256) {
+    if !octets::between(1, 256, span as usize) {
         return false;
     }
-    if !in_range(commands, 64) {
+    if !octets::between(1, 64, commands as usize) {
         return false;
     }
-    if !in_range(entries, 16) {
+    if !octets::between(1, 16, entries as usize) {
         return false;
     }
     all_words(words, from, commands, entries as usize)

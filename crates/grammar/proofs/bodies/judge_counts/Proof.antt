@@ -1,7 +1,7 @@
 -- `bodies::judge_counts` meets its contract: each return after the tests that led there.
 use borrow.Author.Needs.{needs}
 use mathlib.Core.Path.{sym, ap, _∙_}
-use Rattle.grammar.specs.Names.{between}
+use Rattle.octets.specs.Range.{between}
 use Rattle.grammar.specs.Faults.{first}
 use Rattle.grammar.proofs.TestLaws.{no, yes}
 use Rattle.grammar.proofs.bodies.judge_counts.Statement.{statement}
@@ -11,7 +11,7 @@ returns : tie.Need-returns
 unfolding first
 returns c =
     let r = c .before .before in
-    rw (← r .before .before .start .ensures .0, ← r .before .commands .ensures, no (r .in-range .ensures) (c .before .if1 .taken)) (c .fault-at .ensures)
+    rw (← r .before .before .start .ensures .0, ← r .before .commands .ensures, no (r .between .ensures) (c .before .if1 .taken)) (c .fault-at .ensures)
 
 returns-2 : tie.Need-returns-2
 unfolding first
@@ -22,8 +22,8 @@ returns-2 c =
       ← r .before .before .start .ensures .0,
       ← r .before .commands .ensures,
       ← q .before .entries .ensures,
-      yes (r .in-range .ensures) (q .before .before .if1 .left),
-      no (q .in-range2 .ensures) (c .before .if2 .taken),
+      yes (r .between .ensures) (q .before .before .if1 .left),
+      no (q .between2 .ensures) (c .before .if2 .taken),
     ) (c .fault-at2 .ensures)
 
 returns-3 : tie.Need-returns-3
@@ -33,8 +33,8 @@ returns-3 c =
     let r = q .before .before .before in
     rw (
       ← r .before .commands .ensures,
-      yes (r .in-range .ensures) (q .before .before .if1 .left),
-      sym (ap (between 1 16) (q .before .entries .ensures)) ∙ yes (q .in-range2 .ensures) (c .before .if2 .left),
+      yes (r .between .ensures) (q .before .before .if1 .left),
+      sym (ap (between 1 16) (q .before .entries .ensures)) ∙ yes (q .between2 .ensures) (c .before .if2 .left),
     ) (c .judge-span .ensures)
 
 pub judge-counts-spec : {M : Type 1} → statement M

@@ -1,23 +1,13 @@
 -- `bodies::judge_interface` meets its contract: the counts first, then the words.
-use mathlib.Core.Path.{refl}
 use borrow.Author.Needs.{needs}
-use borrow.Author.Tests.{not-false}
-use Rattle.grammar.specs.Checks.{countChecks, interfaceChecks}
-use Rattle.grammar.proofs.TestLaws.{between-both}
+use Rattle.grammar.specs.Checks.{interfaceChecks}
 use Rattle.grammar.proofs.FaultLaws.{stop, go}
-use Rattle.grammar.proofs.GoodLaws.{passed-of}
 use Rattle.grammar.proofs.bodies.judge_interface.Statement.{statement}
 use Rattle.grammar.proofs.bodies.judge_interface.Tie as tie
 
 returns : tie.Need-returns
 unfolding interfaceChecks
 returns c = let k = c .before .before in stop _ _ (k .judge-counts .result) (k .judge-counts .ensures) (c .if1 .taken)
-
-judge-words-requires : tie.Need-judge-words-requires
-judge-words-requires c κs =
-    let k = c .before .before .before in
-    let a = k .before .before .args in
-    between-both _ _ _ (not-false _ (passed-of (countChecks (a .book .now) (a .i)) refl (rw (k .judge-counts .ensures) at (c .before .if1 .left)) .0)) .1
 
 returns-2 : tie.Need-returns-2
 unfolding interfaceChecks
@@ -29,4 +19,4 @@ returns-2 c =
 pub judge-interface-spec : {M : Type 1} → statement M
 judge-interface-spec =
     tie.close (tie.spec
-    (λ c κs. search needs) returns (λ c κs. search needs) judge-words-requires returns-2)
+    (λ c κs. search needs) returns (λ c κs. search needs) (λ c κs. search needs) returns-2)

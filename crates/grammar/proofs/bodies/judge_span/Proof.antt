@@ -12,7 +12,7 @@ returns c =
     rw (
       ← r .before .before .entries .ensures,
       ← r .before .size .ensures .0,
-      no (r .in-range .ensures) (c .before .before .if1 .taken),
+      no (r .between .ensures) (c .before .before .if1 .taken),
       ← c .before .start .ensures .0,
     ) (c .fault-at .ensures)
 
@@ -20,7 +20,7 @@ returns-2 : tie.Need-returns-2
 unfolding first
 returns-2 c =
     let r = c .before .before in
-    rw (← r .before .before .entries .ensures, ← r .before .size .ensures .0, yes (r .in-range .ensures) (c .before .if1 .left)) (c .no-fault .ensures)
+    rw (← r .before .before .entries .ensures, ← r .before .size .ensures .0, yes (r .between .ensures) (c .before .if1 .left)) (c .no-fault .ensures)
 
 pub judge-span-spec : {M : Type 1} → statement M
 judge-span-spec =

@@ -19,9 +19,6 @@ abbrev μ-loop : tie.MeasureT-loop
 loop-holds : tie.Need-loop-holds Inv-loop μ-loop
 loop-holds c = left-all _ _
 
-word-fits-requires : tie.Need-word-fits-requires Inv-loop μ-loop
-word-fits-requires c κs = search needs
-
 returns : tie.Need-returns Inv-loop μ-loop
 unfolding first
 returns c =
@@ -47,5 +44,5 @@ pub judge-words-spec : {M : Type 1} → statement M
 judge-words-spec =
     tie.close (tie.spec
     Inv-loop μ-loop (λ c κs. search needs) (λ c κs. search needs) loop-holds (λ c κs. search needs)
-    word-fits-requires (λ c. search needs) (λ c. search needs) (λ c. search needs) (λ c. search needs) (λ c κs. search needs)
+    (λ c κs. search needs) (λ c. search needs) (λ c. search needs) (λ c. search needs) (λ c. search needs) (λ c κs. search needs)
     returns (λ c. search needs) (λ c. search needs) loop-again (λ c κs. search needs) returns-2)

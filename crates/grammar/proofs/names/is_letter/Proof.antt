@@ -6,8 +6,9 @@ use Prim.Native.Nat.{ℕ, zero, suc, _+_, _-_, _<_, _≤_}
 use native.Mathlib.Omega.{arith}
 use lib.Dec.{leb}
 use borrow.Author.Tests.{lt-leb, leb-true, ne-eqb}
+use Rattle.octets.specs.Range.{between}
 use Rattle.octets.proofs.CheckLaws.{tests}
-use Rattle.grammar.specs.Names.{between, letter}
+use Rattle.grammar.specs.Names.{letter}
 use Rattle.grammar.proofs.names.is_letter.Statement.{statement}
 use Rattle.grammar.proofs.names.is_letter.Tie as tie
 
