@@ -10,7 +10,7 @@ use Rattle.octets.specs.Room.{part, placed}
 use Rattle.octets.proofs.LittleLaws.{length-octets, number-octets}
 use Rattle.octets.proofs.RoomLaws.{length-placed}
 use Rattle.capability.specs.Bytes.{idOf, wordAt, fourAt, secretOf, wordBytes, capability}
-use Rattle.capability.proofs.PlacedLaws.{placed-next}
+use Rattle.octets.proofs.PlacedLaws.{placed-next}
 use Rattle.capability.proofs.WordsLaws.{four-written}
 
 pub length-words : (ws : List ℕ) → length (wordBytes ws) ≡ 8 * length ws

@@ -1,4 +1,3 @@
-pub mod PlacedLaws
 pub mod ChainLaws
 pub mod RightsLaws
 pub mod BytesLaws

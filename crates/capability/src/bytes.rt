@@ -1,16 +1,16 @@
 // A capability's bytes and words.
 ghost use mathlib.Core.Path.{_≡_};
-ghost use Prim.Native.Nat.{_≤_, _<_};
+ghost use Prim.Native.Nat.{_≤_};
 ghost use lib.ListN.{length};
 ghost use Rattle.octets.specs.Room.{placed};
 ghost use Rattle.capability.specs.Rights.{allows, permitted};
 ghost use Rattle.capability.specs.Bytes as B;
 
-// Four words from `at` on.
-pub(crate) fn four_at(s: &[u8], at: usize) -> [u64; 4]
-    requires { ⌜ at < 65536 ⌝ }
-    ensures { λ r. ⌜ r ≡ B.fourAt (now (s .entry)) at ⌝ }
+// Four words, one after the other.
+pub fn four_at(s: &[u8], start: u16) -> [u64; 4]
+    ensures { λ r. ⌜ r ≡ B.fourAt (now (s .entry)) start ⌝ }
 {
+    let at = start as usize;
     [
         octets::u64_at(s, at),
         octets::u64_at(s, at + 8),

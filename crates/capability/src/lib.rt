@@ -4,6 +4,7 @@ mod bytes;
 
 pub use chain::right_secret;
 pub use chain::Chained;
+pub use bytes::four_at;
 pub use bytes::permits;
 
 ghost use mathlib.Core.Path.{_≡_};

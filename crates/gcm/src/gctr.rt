@@ -9,7 +9,7 @@ ghost use Rattle.gcm.specs.Gctr.{xors, gctr};
 ghost use Rattle.gcm.specs.Gcm.{counter};
 
 // How many blocks n bytes make, the last of them perhaps in part.
-pub(crate) fn blocks_in(n: usize) -> usize
+pub fn blocks_in(n: usize) -> usize
     ensures { λ r. ⌜ r ≡ blocksIn n ⌝ }
 {
     if n % 16 == 0 { n / 16 } else { n / 16 + 1 }

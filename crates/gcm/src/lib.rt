@@ -4,8 +4,8 @@
 // `seal_in_place`, `authentic` and `crypt`. Every function takes all inputs, of every length.
 mod gctr;
 
+pub use gctr::blocks_in;
 pub use gctr::crypt;
-use crate::gctr::blocks_in;
 
 ghost use mathlib.Core.Path.{_≡_};
 ghost use Rattle.octets.specs.Room.{fits};

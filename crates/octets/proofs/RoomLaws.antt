@@ -8,10 +8,10 @@ use native.Mathlib.Nat.{zero-add, suc-add}
 use native.Mathlib.Omega.{arith}
 use borrow.Author.Tests.{le-leb, lt-leb, leb-true, leb-false}
 use lib.Dec.{leb}
-use lib.ListN.{length, take, drop, replicate, length-append, length-take, length-drop, drop-of-length-le}
+use lib.ListN.{length, take, drop, replicate, length-append, length-take, length-drop, length-replicate, drop-of-length-le}
 use lib.Seq.{take-all, take-length, take-nil, take-take, drop-drop, drop-at, take-append-le, length-take-le, paste, length-paste, take-paste, drop-paste}
 use Rattle.octets.specs.Checks.{pick}
-use Rattle.octets.specs.Room.{part, over, placed, atStart, sixteenAt}
+use Rattle.octets.specs.Room.{part, over, placed, atStart, filled}
 
 -- the rest of a slice that is lent as `&s[at..]`
 pub part-rest : (s : List ℕ) (at : ℕ) → part s at (length s - at) ≡ drop at s
@@ -93,16 +93,24 @@ module _ (d : List ℕ) (at : ℕ) (x : List ℕ) where
 pub placed-start : (d x : List ℕ) → length x ≤ length d → placed d 0 x ≡ atStart x d
 placed-start d x h = rw (placed-fits d 0 x (omega arith), zero-add)
 
--- the sixteen bytes that a room of as many zeros holds once the part was placed
-module _ (s : List ℕ) (at : ℕ) where
-  pub sixteen-placed : placed (replicate 16 0) 0 (part s at 16) ≡ sixteenAt s at
-  unfolding sixteenAt
-  sixteen-placed = placed-start (replicate 16 0) (part s at 16) (omega (arith, length-take 16 (drop at s)))
+-- the bytes that a room of as many zeros holds once the part was placed
+module _ (k : ℕ) (s : List ℕ) (at : ℕ) where
+  abbrev zeros : List ℕ
+  zeros = replicate k 0
 
-  pub length-sixteen : length (sixteenAt s at) ≡ 16
-  length-sixteen = rw (← sixteen-placed) (length-placed (replicate 16 0) 0 (part s at 16))
+  zeros-long : length zeros ≡ k
+  zeros-long = length-replicate k 0
+
+  pub filled-placed : placed (replicate k 0) 0 (part s at k) ≡ filled k s at
+  unfolding filled
+  filled-placed = placed-start zeros (part s at k) (omega (arith, length-take k (drop at s), zeros-long))
+
+  pub length-filled : length (filled k s at) ≡ k
+  length-filled = rw (← filled-placed) (length-placed zeros 0 (part s at k) ∙ zeros-long)
 
   -- where the string reaches there, they are its own
-  pub sixteen-there : at + 16 ≤ length s → sixteenAt s at ≡ part s at 16
-  unfolding sixteenAt
-  sixteen-there h = rw (length-part s at 16 h) (append-nil (part s at 16))
+  pub filled-there : at + k ≤ length s → filled k s at ≡ part s at k
+  unfolding filled
+  filled-there h =
+      ap (λ (l : List ℕ). part s at k ++ l) (drop-of-length-le zeros {i = length (part s at k)} (omega (arith, length-part s at k h, zeros-long)))
+      ∙ append-nil (part s at k)

@@ -31,6 +31,9 @@ fits x room = leb (length x) (length room)
 abbrev pub atStart : List ℕ → List ℕ → List ℕ
 atStart x room = x ++ drop (length x) room
 
--- sixteen bytes of s from `at` on: what s doesn't reach counts as 0
-unfoldable pub sixteenAt : List ℕ → ℕ → List ℕ
-sixteenAt s at = atStart (part s at 16) (replicate 16 0)
+-- k bytes of s from `at` on: what s doesn't reach counts as 0
+unfoldable pub filled : ℕ → List ℕ → ℕ → List ℕ
+filled k s at = atStart (part s at k) (replicate k 0)
+
+abbrev pub sixteenAt : List ℕ → ℕ → List ℕ
+sixteenAt s at = filled 16 s at

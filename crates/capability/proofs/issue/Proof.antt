@@ -6,7 +6,7 @@ use Prim.Native.Nat.{ℕ}
 use native.Mathlib.Omega.{arith}
 use lib.Seq.{take-all}
 use Rattle.octets.specs.Room.{placed}
-use Rattle.octets.proofs.RoomLaws.{sixteen-there}
+use Rattle.octets.proofs.RoomLaws.{filled-there}
 use Rattle.capability.specs.Chain.{allOnes, firstSecret}
 use Rattle.capability.specs.Bytes.{capability}
 use Rattle.capability.specs.Calls.{issued, issueBlocks}
@@ -42,7 +42,7 @@ returns-4 c =
     let i2 = i3 .before in
     let i1 = i2 .before in
     let a = i1 .before .before .before .args in
-    let secret = f .first-secret .ensures ∙ ap (λ (k : List ℕ). firstSecret k (a .id)) (x .sixteen .ensures ∙ sixteen-there (a .master .now) 0 (omega arith) ∙ take-all 16 (a .master .now) (omega arith)) in
+    let secret = f .first-secret .ensures ∙ ap (λ (k : List ℕ). firstSecret k (a .id)) (x .sixteen .ensures ∙ filled-there 16 (a .master .now) 0 (omega arith) ∙ take-all 16 (a .master .now) (omega arith)) in
     rw (issue-done (a .master .now) (a .id) (a .room .now) (i1 .if1 .left) (i2 .if2 .left) (i3 .if3 .left))
     (refl, p .put-capability .ensures ∙ ap (λ (s : List ℕ). placed (a .room .now) 0 (capability (a .id) (allOnes ∷ allOnes ∷ allOnes ∷ allOnes ∷ []) s)) secret)
 

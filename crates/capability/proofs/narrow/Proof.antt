@@ -7,7 +7,7 @@ use mathlib.Core.List.{List}
 use Prim.Native.Nat.{ℕ}
 use native.Mathlib.Omega.{arith}
 use Rattle.octets.specs.Room.{placed}
-use Rattle.octets.proofs.RoomLaws.{sixteen-there}
+use Rattle.octets.proofs.RoomLaws.{filled-there}
 use Rattle.capability.specs.Chain.{step}
 use Rattle.capability.specs.Bytes.{idOf, fourAt, secretOf, capability, narrowed, open?}
 use Rattle.capability.specs.Calls.{narrowing, narrowBlocks}
@@ -63,7 +63,7 @@ returns-5 c =
     let i1 = i2 .before in
     let a = i1 .before .before .before .args in
     let words = n .narrow-words .ensures ∙ ap (narrowed (a .word)) (f .four-at .ensures) in
-    let secret = x .next-secret .ensures ∙ ap (λ (s : List ℕ). step s (a .word)) (k .sixteen .ensures ∙ sixteen-there (a .capability .now) 34 (omega arith)) in
+    let secret = x .next-secret .ensures ∙ ap (λ (s : List ℕ). step s (a .word)) (k .sixteen .ensures ∙ filled-there 16 (a .capability .now) 34 (omega arith)) in
     rw (narrow-done (a .capability .now) (a .word) (a .room .now) (i1 .if1 .left) (i2 .if2 .left) (left i3) (i4 .if4 .left)) (
       refl,
       p .put-capability .ensures

@@ -2,7 +2,7 @@
 use mathlib.Core.Path.{_∙_}
 use native.Mathlib.Omega.{arith}
 use borrow.Author.Needs.{needs}
-use Rattle.capability.proofs.PlacedLaws.{block-start}
+use Rattle.octets.proofs.PlacedLaws.{block-start}
 use Rattle.capability.proofs.chain.word_block.Statement.{statement}
 use Rattle.capability.proofs.chain.word_block.Tie as tie
 

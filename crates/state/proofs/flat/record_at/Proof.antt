@@ -5,7 +5,7 @@ use native.Mathlib.Omega.{arith}
 use lib.ListN.{length}
 use borrow.Author.Needs.{needs}
 use borrow.Author.Tests.{lt-ltb, le-ltb}
-use Rattle.octets.proofs.RoomLaws.{sixteen-there}
+use Rattle.octets.proofs.RoomLaws.{filled-there}
 use Rattle.state.specs.Flat.{recordOf}
 use Rattle.state.proofs.flat.record_at.Statement.{statement}
 use Rattle.state.proofs.flat.record_at.Tie as tie
@@ -29,8 +29,8 @@ returns-2 c =
     let i = b .before .args .i in
     let l : length (s .challenges) ≡ 512 = challenges b in
     let m : length (s .keys) ≡ 512 = keys b in
-    let d = k .sixteen .ensures ∙ sixteen-there (s .challenges) (i * 16) (omega arith) in
-    let e = c .sixteen2 .ensures ∙ sixteen-there (s .keys) (i * 16) (omega arith) in
+    let d = k .sixteen .ensures ∙ filled-there 16 (s .challenges) (i * 16) (omega arith) in
+    let e = c .sixteen2 .ensures ∙ filled-there 16 (s .keys) (i * 16) (omega arith) in
     rw (lt-ltb _ 32 (b .if1 .left)) (cc)
 
 pub record-at-spec : {M : Type 1} → statement M

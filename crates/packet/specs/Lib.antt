@@ -1,0 +1,3 @@
+pub mod Command
+pub mod Reply
+pub mod Sealed

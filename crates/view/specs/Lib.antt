@@ -1,0 +1,4 @@
+pub mod Counted
+pub mod View
+pub mod Right
+pub mod Phases
