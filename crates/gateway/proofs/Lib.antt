@@ -1,3 +1,6 @@
-pub mod CommonLaws
 pub mod CloseLaws
 pub mod RevokeLaws
+pub mod RequestLaws
+pub mod ProofLaws
+pub mod CommandLaws
+pub mod ReplyLaws

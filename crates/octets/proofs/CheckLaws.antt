@@ -68,6 +68,10 @@ pub isZero-true : (n : ℕ) → isZero n ≡ true → n ≡ 0
 isZero-true zero e = refl
 isZero-true (suc n) e = absurd (false≢true e)
 
+pub isZero-false : (n : ℕ) → n ≢ 0 → isZero n ≡ false
+isZero-false zero h = absurd (h refl)
+isZero-false (suc n) h = refl
+
 -- what stands before decides, whatever comes after
 pub then-some : (a b : ℕ) → a ≢ 0 → (a then b) ≡ a
 then-some zero b h = absurd (h refl)

@@ -6,7 +6,7 @@ use Prim.Native.Nat.{ℕ, _+_, _-_, _≤_, _<_}
 use native.Mathlib.Omega.{arith}
 use borrow.Author.Tests.{le-leb, lt-leb, leb-true, leb-false}
 use lib.Dec.{leb}
-use lib.ListN.{length, drop, length-append}
+use lib.ListN.{length, drop, length-append, length-map}
 use Rattle.octets.specs.Room.{part, placed}
 use Rattle.octets.proofs.RoomLaws.{placed-start, placed-short, part-placed}
 use Rattle.aes.specs.Cipher.{cipher}
@@ -17,6 +17,7 @@ use Rattle.gcm.specs.Gctr.{inc32, gctr}
 use Rattle.gcm.specs.Gcm.{j0, subkey, Sealed, sealUnder, seal}
 use Rattle.gcm.proofs.GctrLaws.{gctr-length}
 use Rattle.gcm.proofs.GcmLaws.{seal-count, seal-length, tag-length}
+use Rattle.capability.specs.Enciphered.{underKey}
 use Rattle.packet.specs.Sealed.{sealedPacket, sealedBlocks}
 use Rattle.octets.proofs.PlacedLaws.{placed-again, placed-front}
 
@@ -95,3 +96,10 @@ module _ (key a iv text : List ℕ) (e12 : length iv ≡ 12) where
     pub blocks-short : 0 ≡ sealedBlocks key a iv text room
     unfolding sealedBlocks
     blocks-short = rw (lt-leb (length (sealedPacket key a iv text)) (length room) (omega (arith, packet-length)))
+
+-- where a packet fits, the count is that of the blocks enciphered under the key
+pub blocks-counted : (key a iv text room : List ℕ) → length (sealedPacket key a iv text) ≤ length room
+    → sealedBlocks key a iv text room ≡ length (underKey key (seal (cipher key) iv a text .enciphered))
+unfolding sealedBlocks
+blocks-counted key a iv text room h =
+    rw (le-leb (length (sealedPacket key a iv text)) (length room) h) (sym (length-map (seal (cipher key) iv a text .enciphered) _))

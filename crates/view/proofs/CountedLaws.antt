@@ -1,16 +1,11 @@
 -- Numbers that are counted from 1: what there being such a thing says, and where it stands.
-use mathlib.Core.Path.{_≡_, refl}
+use mathlib.Core.Path.{_≡_}
 use mathlib.Core.Bool.{true, false, true≢false}
 use Prim.Native.Nat.{ℕ, zero, suc, _+_, _-_, _≤_}
 use native.Mathlib.Omega.{arith}
 use borrow.Author.Tests.{ltb-false}
-use Rattle.octets.specs.Checks.{isZero}
 use Rattle.state.proofs.BelowLaws.{pick-ind}
 use Rattle.view.specs.Counted.{noSuch, place}
-
-pub isZero-false : (n : ℕ) → (n ≡ 0 → ⊥) → isZero n ≡ false
-isZero-false zero h = absurd (h refl)
-isZero-false (suc n) h = refl
 
 pub such : (n count : ℕ) → noSuch n count ≡ false → (1 ≤ n) × (n ≤ count)
 unfolding noSuch

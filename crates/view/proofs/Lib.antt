@@ -1,2 +1,3 @@
 pub mod CountedLaws
 pub mod ViewLaws
+pub mod PhaseLaws

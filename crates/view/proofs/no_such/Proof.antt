@@ -1,6 +1,6 @@
 -- `view::no_such` meets its contract.
 use Rattle.view.specs.Counted.{noSuch}
-use Rattle.view.proofs.CountedLaws.{isZero-false}
+use Rattle.octets.proofs.CheckLaws.{isZero-false}
 use Rattle.view.proofs.no_such.Statement.{statement}
 use Rattle.view.proofs.no_such.Tie as tie
 

@@ -6,9 +6,9 @@ use Prim.Native.Nat.{ℕ}
 use lib.ListN.{drop}
 use Rattle.octets.specs.Checks.{refusal}
 use Rattle.view.specs.Phases.{fresh}
-use Rattle.view.proofs.CountedLaws.{isZero-false}
+use Rattle.octets.proofs.CheckLaws.{isZero-false}
 use Rattle.command.specs.Command.{innerRows, inner}
-use Rattle.command.proofs.JudgeLaws.{shut}
+use Rattle.view.proofs.PhaseLaws.{shut}
 use Rattle.command.proofs.judge.inner.Statement.{statement}
 use Rattle.command.proofs.judge.inner.Tie as tie
 

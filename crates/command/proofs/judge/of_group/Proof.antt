@@ -1,6 +1,6 @@
 -- `judge::of_group` meets its contract.
 use borrow.Author.Needs.{needs}
-use Rattle.view.proofs.CountedLaws.{isZero-false}
+use Rattle.octets.proofs.CheckLaws.{isZero-false}
 use Rattle.command.proofs.judge.of_group.Statement.{statement}
 use Rattle.command.proofs.judge.of_group.Tie as tie
 

@@ -1,0 +1,3 @@
+pub mod SealLaws
+pub mod ReplyLaws
+pub mod OpenLaws
