@@ -1,0 +1,5 @@
+pub mod Refused
+pub mod Sound
+pub mod Numbers
+pub mod One
+pub mod Contracts

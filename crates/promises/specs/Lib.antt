@@ -1,0 +1,5 @@
+pub mod Step
+pub mod Series
+pub mod Among
+pub mod One
+pub mod Counts
