@@ -3,4 +3,3 @@ pub mod RightsLaws
 pub mod BytesLaws
 pub mod WordsLaws
 pub mod CallLaws
-pub mod Samples

@@ -1,4 +1,4 @@
--- Sample P10: "a b" is a name; " a" fails at its first byte. And the document's two books of 23 bytes.
+-- The document's two books of 23 bytes.
 use mathlib.Core.Path.{_≡_, refl}
 use Prim.Native.Nat.{ℕ}
 use mathlib.Core.List.{List, [], _∷_}
@@ -7,14 +7,6 @@ use Rattle.layout.specs.Layout.{format, rows, total, kind, id, start, size, hos
 use Rattle.grammar.specs.Names.{letter, innerSpace, fitting}
 use Rattle.grammar.specs.Faults.{fault, none, first, each}
 use Rattle.grammar.specs.Checks.{kindFits, ordinal, sizeFits, letterChecks, usedBelow, nameChecks, bodyChecks, faultOf}
-
-pub a-b : first (each (letterChecks 0 (97 ∷ 32 ∷ 98 ∷ [])) 0 3) ≡ none
-unfolding first each fitting letter innerSpace
-a-b = refl
-
-pub space-a : first (each (letterChecks 0 (32 ∷ 97 ∷ [])) 0 2) ≡ fault 47 0
-unfolding first each fitting letter innerSpace
-space-a = refl
 
 -- the document's book of 23 bytes, its last byte c: one host of no group, with a name of one byte
 abbrev small : ℕ → List ℕ

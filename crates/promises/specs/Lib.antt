@@ -3,3 +3,4 @@ pub mod Series
 pub mod Among
 pub mod One
 pub mod Counts
+pub mod Samples
