@@ -1,19 +1,31 @@
 -- Ordered checks: what a table's answer says of its rows, and what the answers of stages say of theirs.
 -- `tests` closes a need that asks how a test comes out, and `staged` one that asks for the answer of stages.
-use mathlib.Core.Path.{_≡_, refl, sym}
+use mathlib.Core.Path.{_≡_, refl, sym, _∙_}
 use mathlib.Core.Logic.{_≢_, inl, inr}
-use mathlib.Core.Bool.{Bool, true, false, _&&_, true≢false, false≢true}
+use mathlib.Core.Bool.{Bool, true, false, not, _&&_, true≢false, false≢true}
 use mathlib.Core.List.{List, [], _∷_, _++_}
 use Prim.Native.Nat.{ℕ, zero, suc}
 use native.Mathlib.Omega.{arith}
 use borrow.Author.Needs.{needs}
-use borrow.Author.Tests.{lt-ltb, le-ltb, lt-leb, le-leb, eq-eqb, ne-eqb}
+use borrow.Author.Tests.{lt-ltb, le-ltb, lt-leb, le-leb, eq-eqb, ne-eqb, not-true, not-false}
 use Rattle.octets.specs.Checks.{Row, _when_, pick, refusal, _then_, isZero, numbered, Passed, Each, First}
 
 module _ {ℓ κ} {A : Type ℓ} {B : Type κ} where
   pub pick-ap : (f : A → B) (t : Bool) (a b : A) → f (pick t a b) ≡ pick t (f a) (f b)
   pick-ap f true a b = refl
   pick-ap f false a b = refl
+
+-- what holds of both choices holds of the one that is picked
+pub pick-ind : {A : Type 0} {a b : A} (P : A → Type 0) (t : Bool) → (t ≡ true → P a) → P b → P (pick t a b)
+pick-ind P true f g = f refl
+pick-ind P false f g = g
+
+-- what `if !f(x)` says of the test that f answers
+pub no : {r t : Bool} → r ≡ t → not r ≡ true → t ≡ false
+no {r} e h = sym e ∙ not-true r h
+
+pub yes : {r t : Bool} → r ≡ t → not r ≡ false → t ≡ true
+yes {r} e h = sym e ∙ not-false r h
 
 pub and-left : (a b : Bool) → (a && b) ≡ true → a ≡ true
 and-left true b e = refl

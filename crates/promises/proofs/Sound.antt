@@ -13,7 +13,7 @@ use Rattle.octets.proofs.CheckLaws.{passed-of, isZero-true}
 use Rattle.state.specs.declared.State.{State}
 use Rattle.state.specs.declared.Rights.{Rights}
 use Rattle.state.specs.Sound.{soundRights}
-use Rattle.state.proofs.BelowLaws.{pick-ind}
+use Rattle.octets.proofs.CheckLaws.{pick-ind}
 use Rattle.state.proofs.SoundLaws.{sound-facts, sound-withWord}
 use Rattle.view.specs.Counted.{noSuch}
 use Rattle.view.specs.Right.{rightOf}

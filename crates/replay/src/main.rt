@@ -9,17 +9,6 @@ mod output;
 mod poke;
 mod server;
 
-fn empty() -> state::State {
-    let rights = state::no_rights();
-    let records = state::idle_records();
-    state::State {
-        rights: rights,
-        records: records,
-        names: [0; 8192],
-        labels: [0; 2048],
-    }
-}
-
 // Performs one call on the selected state, and hands the state back.
 fn perform(op: u8, s: state::State) -> state::State {
     if op < 4 {
@@ -50,7 +39,7 @@ fn slot() -> usize {
 
 // A proved loop has to end, and nothing says that a trace does: the loop counts its turns down, from a number that no trace uses up.
 fn main() {
-    let start = empty();
+    let start = book::empty_state();
     let mut slots = [start; 4];
     let mut selected: usize = 0;
     let mut turns = u64::MAX;

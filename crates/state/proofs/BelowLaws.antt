@@ -1,5 +1,4 @@
--- A test that passes at each number below n, a number from 1 to another, what holds of a choice, and what `if !f(x)` tells of what
--- f's contract says.
+-- A test that passes at each number below n, and a number from 1 to another.
 use mathlib.Core.Path.{_≡_, refl, sym, _∙_}
 use mathlib.Core.Bool.{Bool, true, false, not, _&&_}
 use mathlib.Core.Logic.{⊎-elim}
@@ -7,20 +6,8 @@ use Prim.Native.Nat.{ℕ, zero, suc, _+_, _≤_, _<_}
 use native.Mathlib.Nat.{eq-or-lt-of-le, le-of-suc-le-suc, not-suc-le-zero}
 use native.Mathlib.Numerals.{add-one}
 use native.Mathlib.Omega.{arith}
-use borrow.Author.Tests.{not-true, not-false}
-use Rattle.octets.specs.Checks.{pick}
-use Rattle.octets.proofs.CheckLaws.{and-left, and-right, and-both}
+use Rattle.octets.proofs.CheckLaws.{no, yes, and-left, and-right, and-both}
 use Rattle.state.specs.Sound.{allBelow}
-
-pub no : {r b : Bool} → r ≡ b → not r ≡ true → b ≡ false
-no {r} e t = sym e ∙ not-true r t
-
-pub yes : {r b : Bool} → r ≡ b → not r ≡ false → b ≡ true
-yes {r} e t = sym e ∙ not-false r t
-
-pub pick-ind : {A : Type 0} {a b : A} (P : A → Type 0) (t : Bool) → (t ≡ true → P a) → P b → P (pick t a b)
-pick-ind P true f g = f refl
-pick-ind P false f g = g
 
 and-false : (a b : Bool) → b ≡ false → (a && b) ≡ false
 and-false true b e = e

@@ -18,7 +18,7 @@ use Rattle.state.specs.declared.transitions.Record.{Record}
 use Rattle.state.specs.declared.Records.{Records}
 use Rattle.state.specs.Records.{closed, phaseOf, tagOf, lastOf}
 use Rattle.state.specs.Flat.{recordThere, recordOf, withRecordThere, withRecord, idleRecords, Sized, SizedRecord}
-use Rattle.state.proofs.BelowLaws.{pick-ind}
+use Rattle.octets.proofs.CheckLaws.{pick-ind}
 
 pub phase-back : (p : Phase) → phaseOf (tagOf p) (lastOf p) ≡ p
 phase-back Idle = refl

@@ -16,7 +16,8 @@ use Rattle.octets.proofs.RangeLaws.{between-both, both-between}
 use Rattle.state.specs.declared.Rights.{Rights}
 use Rattle.state.specs.Sound.{allWithin, allWords, interfaceSound, allInterfaces, soundRights}
 use Rattle.state.specs.Flat.{withWords, withWord, noRights}
-use Rattle.state.proofs.BelowLaws.{pick-ind, Within, below-all, all-below}
+use Rattle.octets.proofs.CheckLaws.{pick-ind}
+use Rattle.state.proofs.BelowLaws.{Within, below-all, all-below}
 
 -- one interface
 pub record InterfaceFacts (ws : List ℕ) (from n c e : ℕ) : Type 0 where

@@ -4,7 +4,7 @@ use mathlib.Core.Bool.{true, false, true≢false}
 use Prim.Native.Nat.{ℕ, zero, suc, _+_, _-_, _≤_}
 use native.Mathlib.Omega.{arith}
 use borrow.Author.Tests.{ltb-false}
-use Rattle.state.proofs.BelowLaws.{pick-ind}
+use Rattle.octets.proofs.CheckLaws.{pick-ind}
 use Rattle.view.specs.Counted.{noSuch, place}
 
 pub such : (n count : ℕ) → noSuch n count ≡ false → (1 ≤ n) × (n ≤ count)

@@ -4,7 +4,7 @@ use mathlib.Core.Path.{refl, _∙_}
 use native.Mathlib.Nat.{zero-add}
 use native.Mathlib.Omega.{arith}
 use borrow.Author.Tests.{lt-ltb, le-ltb}
-use Rattle.state.proofs.BelowLaws.{no, yes}
+use Rattle.octets.proofs.CheckLaws.{no, yes}
 use Rattle.state.proofs.SoundLaws.{sound-facts}
 use Rattle.listing.specs.Lines.{lineOf, lineCount, listingOf, renderRefusal, renderLength, renderRoom}
 use Rattle.listing.proofs.LineLaws.{length-counts, length-hosts, length-interfaces}

@@ -12,7 +12,7 @@ use Rattle.octets.specs.Range.{between}
 use Rattle.octets.specs.Room.{numberAt}
 use Rattle.octets.proofs.CheckLaws.{and-left}
 use Rattle.state.specs.Sound.{soundRights}
-use Rattle.state.proofs.BelowLaws.{no, yes}
+use Rattle.octets.proofs.CheckLaws.{no, yes}
 use Rattle.gateway.specs.Request.{version, formRefusal}
 use Rattle.gateway.proofs.requesting.judge.Statement.{statement}
 use Rattle.gateway.proofs.requesting.judge.Tie as tie

@@ -3,7 +3,7 @@ use borrow.Author.Needs.{needs}
 use mathlib.Core.Path.{sym, ap, _∙_}
 use Rattle.octets.specs.Range.{between}
 use Rattle.grammar.specs.Faults.{first}
-use Rattle.grammar.proofs.TestLaws.{no, yes}
+use Rattle.octets.proofs.CheckLaws.{no, yes}
 use Rattle.grammar.proofs.bodies.judge_counts.Statement.{statement}
 use Rattle.grammar.proofs.bodies.judge_counts.Tie as tie
 

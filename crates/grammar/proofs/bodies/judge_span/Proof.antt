@@ -1,7 +1,7 @@
 -- `bodies::judge_span` meets its contract, by its one test.
 use borrow.Author.Needs.{needs}
 use Rattle.grammar.specs.Faults.{first}
-use Rattle.grammar.proofs.TestLaws.{no, yes}
+use Rattle.octets.proofs.CheckLaws.{no, yes}
 use Rattle.grammar.proofs.bodies.judge_span.Statement.{statement}
 use Rattle.grammar.proofs.bodies.judge_span.Tie as tie
 

@@ -5,7 +5,7 @@ use native.Mathlib.Omega.{arith}
 use borrow.Author.Needs.{needs}
 use Rattle.grammar.specs.Faults.{none, first}
 use Rattle.grammar.specs.Checks.{wordChecks}
-use Rattle.grammar.proofs.TestLaws.{no, yes}
+use Rattle.octets.proofs.CheckLaws.{no, yes}
 use Rattle.grammar.proofs.FaultLaws.{Left, left-all, left-more, left-stop, left-end}
 use Rattle.grammar.proofs.bodies.judge_words.Statement.{statement}
 use Rattle.grammar.proofs.bodies.judge_words.Tie as tie

@@ -6,7 +6,7 @@ use lib.ListN.{length}
 use borrow.Author.Needs.{needs}
 use Rattle.grammar.specs.Faults.{none, first}
 use Rattle.grammar.specs.Checks.{letterChecks}
-use Rattle.grammar.proofs.TestLaws.{no, yes}
+use Rattle.octets.proofs.CheckLaws.{no, yes}
 use Rattle.grammar.proofs.FaultLaws.{Left, left-all, left-more, left-stop, left-end}
 use Rattle.grammar.proofs.names.judge_letters.Statement.{statement}
 use Rattle.grammar.proofs.names.judge_letters.Tie as tie

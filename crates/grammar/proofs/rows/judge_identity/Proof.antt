@@ -2,7 +2,7 @@
 use borrow.Author.Needs.{needs}
 use borrow.Author.Tests.{eq-eqb, ne-eqb}
 use Rattle.grammar.specs.Faults.{first}
-use Rattle.grammar.proofs.TestLaws.{no, yes}
+use Rattle.octets.proofs.CheckLaws.{no, yes}
 use Rattle.grammar.proofs.rows.judge_identity.Statement.{statement}
 use Rattle.grammar.proofs.rows.judge_identity.Tie as tie
 

@@ -3,7 +3,7 @@ use native.Mathlib.Omega.{arith}
 use borrow.Author.Needs.{needs}
 use Rattle.octets.proofs.RangeLaws.{between-both}
 use Rattle.state.specs.Sound.{interfaceSound}
-use Rattle.state.proofs.BelowLaws.{no, yes}
+use Rattle.octets.proofs.CheckLaws.{no, yes}
 use Rattle.state.proofs.soundness.interface_sound.Statement.{statement}
 use Rattle.state.proofs.soundness.interface_sound.Tie as tie
 

@@ -5,7 +5,7 @@ use lib.ListN.{length}
 use borrow.Author.Needs.{needs}
 use borrow.Author.Tests.{lt-leb, le-leb}
 use Rattle.state.specs.Sound.{soundRights}
-use Rattle.state.proofs.BelowLaws.{no, yes}
+use Rattle.octets.proofs.CheckLaws.{no, yes}
 use Rattle.state.proofs.soundness.sound.Statement.{statement}
 use Rattle.state.proofs.soundness.sound.Tie as tie
 
