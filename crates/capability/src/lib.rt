@@ -10,7 +10,7 @@ pub use bytes::permits;
 ghost use mathlib.Core.Path.{_≡_};
 ghost use Rattle.capability.specs.Calls.{issueRefusal, issued, issueBlocks, narrowRefusal, narrowing, narrowBlocks, answer, written};
 
-// What issuing and narrowing answer: the number and how many blocks were enciphered.
+// What a call answers that has no other fields: the number and the count of blocks.
 pub struct Answer {
     pub number: u8,
     pub blocks: usize,

@@ -22,11 +22,11 @@ use Rattle.gcm.specs.Gctr.{inc32}
 use Rattle.gcm.specs.Gcm.{zeros, subkey, j0, tagOf}
 use Rattle.gcm.proofs.GctrLaws.{gctr-count}
 use Rattle.gcm.proofs.GcmLaws.{tag-count}
-use Rattle.capability.specs.Enciphered.{Enciphered, underKey}
+use Rattle.capability.specs.Enciphered.{Enciphered, underKey, past}
 use Rattle.packet.specs.Reply.{replyVector}
 use Rattle.packet.specs.Sealed.{rightTag, textOf}
 use Rattle.client.specs.declared.open.Opened.{Opened}
-use Rattle.client.specs.OpenReply.{vectorOf, tagIn, encrypted, replyOuter, replyTagged, replyText, replyInner, openRefusal, past, openBlocks, opened, openRoom}
+use Rattle.client.specs.OpenReply.{vectorOf, tagIn, encrypted, replyOuter, replyTagged, replyText, replyInner, openRefusal, openBlocks, opened, openRoom}
 
 -- a lent key of sixteen bytes, prepared
 pub keyed : (key p : List ℕ) → length key ≡ 16 → p ≡ prepared (filled 16 key 0) → under p ≡ cipher key

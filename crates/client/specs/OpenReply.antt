@@ -1,5 +1,5 @@
 -- Document 01: opening a reply. "Open reply: 28, 1, 2, 5, 7, 8, 11, 12." The payload is written once the last check has passed.
-use Prim.Native.Nat.{ℕ, zero, suc, _-_}
+use Prim.Native.Nat.{ℕ, _-_}
 use mathlib.Core.Bool.{not}
 use mathlib.Core.List.{List, [], _∷_, _++_}
 use lib.Dec.{eqb, ltb}
@@ -11,7 +11,7 @@ use Rattle.aes.specs.Cipher.{cipher}
 use Rattle.gcm.specs.Gctr.{Out}
 use Rattle.gcm.specs.Gcm.{zeros, subkey, tagOf}
 use Rattle.capability.specs.Calls.{written}
-use Rattle.capability.specs.Enciphered.{Enciphered, underKey}
+use Rattle.capability.specs.Enciphered.{Enciphered, underKey, past}
 use Rattle.packet.specs.Reply.{replyVector}
 use Rattle.packet.specs.Sealed.{rightTag, textOf}
 use Rattle.client.specs.declared.open.Opened.{Opened}
@@ -54,17 +54,13 @@ openRefusal key n p room =
     replyOuter key n p room then replyTagged (cipher key) p then replyInner n (length p - 32) (replyText (cipher key) p .bytes)
 
 -- what is enciphered: after the outer checks the tag's blocks; where the tag is right, the text's
-abbrev pub past : ℕ → List Enciphered → List Enciphered
-past zero bs = bs
-past (suc n) bs = []
-
 unfoldable pub openBlocks : List ℕ → ℕ → List ℕ → ℕ → List Enciphered
 openBlocks key n p room =
     past (replyOuter key n p room)
     (underKey key (zeros ∷ tagOf (cipher key) (subkey (cipher key)) (vectorOf p) [] (encrypted p) .enciphered)
     ++ past (replyTagged (cipher key) p) (underKey key (replyText (cipher key) p .enciphered)))
 
--- "An opened reply's answer carries its payload length; a refusal gives 0."
+-- an opened reply's answer carries its payload length; "a refusal gives 0 for these"
 unfoldable pub opened : List ℕ → ℕ → List ℕ → List ℕ → Opened
 opened key n p room = record {
   number = openRefusal key n p (length room);

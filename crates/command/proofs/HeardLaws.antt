@@ -20,7 +20,7 @@ use Rattle.gcm.specs.Gctr.{inc32, gctr}
 use Rattle.gcm.specs.Gcm.{subkey, counter, j0}
 use Rattle.gcm.proofs.GctrLaws.{gctr-count}
 use Rattle.gcm.proofs.GcmLaws.{tag-count}
-use Rattle.capability.specs.Enciphered.{Enciphered, underKey}
+use Rattle.capability.specs.Enciphered.{Enciphered, underKey, past}
 use Rattle.capability.specs.Chain.{allOnes, rightSecret, rightBlocks, before}
 use Rattle.capability.specs.Calls.{written}
 use Rattle.capability.proofs.ChainLaws.{count-right}
@@ -32,7 +32,7 @@ use Rattle.packet.specs.Command.{additional, vectorOf, tagIn, encrypted, orderO
 use Rattle.packet.specs.Sealed.{rightTag, textOf}
 use Rattle.packet.proofs.CommandLaws.{order-head, text-head, text-rest}
 use Rattle.command.specs.Command.{ciphOf, outerRows, outer, tagged, text, order, named, judged, genuine, weighed, opening, commandRefusal}
-use Rattle.command.specs.Blocks.{past, tagBlocks, chained, commandBlocks}
+use Rattle.command.specs.Blocks.{tagBlocks, chained, commandBlocks}
 use Rattle.command.specs.Heard.{noOrder, answering, heard, heardRoom}
 use Rattle.command.specs.declared.Heard.{Heard}
 

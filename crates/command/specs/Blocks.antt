@@ -1,20 +1,15 @@
 -- Document 01, "Blocks counted": the blocks that the check of a command enciphers, in order. After the outer checks those of the tag; where
 -- it is right, those of the whole text; where the text's checks but the last pass, those of the chain of secrets.
-use Prim.Native.Nat.{ℕ, zero, suc}
+use Prim.Native.Nat.{ℕ}
 use mathlib.Core.List.{List, [], _∷_, _++_}
 use Rattle.gcm.specs.Gcm.{zeros, subkey, tagOf}
-use Rattle.capability.specs.Enciphered.{Enciphered, underKey}
+use Rattle.capability.specs.Enciphered.{Enciphered, underKey, past}
 use Rattle.capability.specs.Chain.{rightBlocks}
 use Rattle.state.specs.declared.Rights.{Rights}
 use Rattle.view.specs.declared.View.{View}
 use Rattle.packet.specs.declared.fields.Order.{Order}
 use Rattle.packet.specs.Command.{additional, vectorOf, encrypted}
 use Rattle.command.specs.Command.{ciphOf, outer, tagged, text, order, named, judged}
-
--- what is enciphered past a check
-abbrev pub past : ℕ → List Enciphered → List Enciphered
-past zero bs = bs
-past (suc n) bs = []
 
 -- the blocks of the tag: the subkey's, and its own
 abbrev pub tagBlocks : (List ℕ → List ℕ) → List ℕ → List (List ℕ)

@@ -1,7 +1,7 @@
 -- Document 01: the check of a command, in its own order. "Command: 39, then 1 to 19." The packet p and the length of the lent room are judged
 -- against the view v of the host that the open part names; then the text, deciphered with `ciph`, against the right that it names.
 use Prim.Native.Nat.{ℕ, _-_}
-use mathlib.Core.Bool.{Bool, not, _||_}
+use mathlib.Core.Bool.{not, _||_}
 use mathlib.Core.List.{List, [], _∷_}
 use lib.Dec.{eqb, leb, ltb}
 use lib.ListN.{length}
@@ -91,7 +91,7 @@ named r o = rightOf r (o .interface) (o .capability)
 unfoldable pub judged : View → Rights → List ℕ → Order → ℕ
 judged v r p o = inner v (clientOf p) (length p - 96) o then rightful (named r o) o
 
--- "A command opens when it gets past 8."
+-- "A command opens when it gets past 8.": 0 where it opens
 unfoldable pub opening : View → List ℕ → ℕ → ℕ
 opening v p room = outer v p room then tagged (ciphOf v) p
 

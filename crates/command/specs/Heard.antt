@@ -1,7 +1,7 @@
--- Document 01: what a command is answered, and what it writes. "An accepted command's answer also carries its other inner fields; a refusal
--- gives 0 for these." "A command writes the payload."
+-- Document 01, "Numbers of refusal": what a command is answered, and what it writes. "An accepted command's answer also carries its other inner
+-- fields", "a refusal gives 0 for these". What an accepted one writes is the payload.
 use Prim.Native.Nat.{ℕ}
-use mathlib.Core.List.{List, [], _∷_}
+use mathlib.Core.List.{List}
 use lib.ListN.{length, replicate}
 use Rattle.octets.specs.Checks.{pick, isZero}
 use Rattle.capability.specs.Calls.{written}

@@ -75,7 +75,7 @@ fn head(p: &aes::Prepared, packet: &[u8]) -> [u8; 64]
     out
 }
 
-// The last check, and the payload at the start of the room where it passes. `count` is what was enciphered before.
+// The last check, and the payload at the start of the room where it passes. `count` is what is counted before it.
 fn finish(p: &aes::Prepared, f: view::Right, o: packet::Order, packet: &[u8], room: &mut [u8], count: usize) -> Heard
     requires { ⌜ (96 ≤ length (now packet)) × (count ≤ 1100) ⌝ }
     ensures { λ r. ⌜ (r ≡ answering (genuine f o) (count + length (rightBlocks (f .secret) (o .capability) (o .words))) o)

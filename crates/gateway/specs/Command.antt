@@ -1,5 +1,5 @@
--- Document 01: command. The check is crate command's, over the view of the host that the packet's open part names. "The record": an accepted
--- command's number is the last one, and a reply is owed for it.
+-- Document 01: command. The check is crate command's, over the view of the host that the packet's open part names. An accepted command's
+-- number is the last one from then on, and a reply is owed for it.
 use Prim.Native.Nat.{ℕ}
 use mathlib.Core.List.{List}
 use Rattle.state.specs.declared.Rights.{Rights}

@@ -15,7 +15,7 @@ use Rattle.gcm.proofs.GctrLaws.{gctr-length, gctr-twice, gctr-count}
 use Rattle.gcm.proofs.GcmLaws.{tag-count}
 
 -- what opening answered says how the comparison went
-opened-text : (t : Bool) (bs : List (List ℕ)) (o : Out) (p : List ℕ) (cs : List (List ℕ))
+pub opened-text : (t : Bool) (bs : List (List ℕ)) (o : Out) (p : List ℕ) (cs : List (List ℕ))
     → openIf t bs o ≡ plain p cs → (t ≡ true) × (o .bytes ≡ p) × (bs ++ o .enciphered ≡ cs)
 unfolding openIf
 opened-text true bs o p cs e = (refl, cc, cc)

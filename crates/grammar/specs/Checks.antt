@@ -32,7 +32,7 @@ kindFits k i h = (eqb k 1 && (eqb h i && ltb i 32)) || (eqb k 2 && (ltb 0 h && l
 unfoldable pub ordinal : ℕ → ℕ → ℕ → ℕ
 ordinal k i h = pick (eqb k 1) (i + 1) (i - h + 1)
 
--- "Host body: Length 3 to 258. Interface body: Length 31 to 436."
+-- a host body's length is 3 to 258, an interface body's 31 to 436
 unfoldable pub sizeFits : ℕ → ℕ → Bool
 sizeFits k n = pick (eqb k 1) (between 3 258 n) (between 31 436 n)
 
@@ -66,7 +66,7 @@ spanChecks b i =
     45 at (start b i + 18) when not (between (21 + 10 * entries b i) (276 + 10 * entries b i) (size b i))
     ∷ []
 
--- "45 command count (body+16), entry count (body+18)"
+-- 45: command count (body+16), entry count (body+18)
 abbrev pub countChecks : List ℕ → ℕ → List Check
 countChecks b i =
     45 at (start b i + 16) when not (between 1 64 (commands b i))

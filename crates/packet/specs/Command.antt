@@ -3,7 +3,7 @@
 -- words (8 each), secret (16), payload. Additional authenticated data: the first four bytes."
 use Prim.Native.Nat.{ℕ}
 use mathlib.Core.List.{List, [], _∷_, _++_}
-use lib.ListN.{take, drop}
+use lib.ListN.{drop}
 use Rattle.octets.specs.Little.{octets}
 use Rattle.octets.specs.Room.{part, numberAt, filled}
 use Rattle.capability.specs.Bytes.{fourAt}

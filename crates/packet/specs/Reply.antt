@@ -1,7 +1,7 @@
 -- Document 01, "Command packet": "Reply: vector (12), tag (16), then encrypted sequence number (2), payload length (2), payload; no additional
 -- data. Its vector is 128, 0, the sequence number (2), eight zeros."
 use Prim.Native.Nat.{ℕ}
-use mathlib.Core.List.{List, [], _∷_, _++_}
+use mathlib.Core.List.{List, _∷_, _++_}
 use lib.ListN.{replicate}
 use Rattle.octets.specs.Little.{octets}
 

@@ -15,13 +15,14 @@ use Rattle.aes.specs.Cipher.{cipher}
 use Rattle.ghash.specs.Ghash.{blocksIn}
 use Rattle.gcm.specs.Gcm.{seal}
 use Rattle.gcm.proofs.GcmLaws.{seal-count}
-use Rattle.capability.specs.Enciphered.{Enciphered, underKey}
+use Rattle.capability.specs.Enciphered.{Enciphered, underKey, past}
 use Rattle.capability.specs.Chain.{rightSecret, rightBlocks, before}
 use Rattle.capability.specs.Calls as C
 use Rattle.capability.specs.Calls.{issueRefusal, issueBlocks, narrowRefusal, narrowBlocks}
 use Rattle.capability.proofs.ChainLaws.{count-right}
 use Rattle.state.specs.declared.State.{State}
 use Rattle.state.specs.declared.Rights.{Rights}
+use Rattle.book.specs.States.{loaded, loadedWith}
 use Rattle.view.specs.View.{see}
 use Rattle.view.specs.declared.View.{View}
 use Rattle.view.specs.declared.Right.{Right}
@@ -30,7 +31,7 @@ use Rattle.packet.specs.Command.{clientOf, commandLead, openLead}
 use Rattle.packet.specs.Reply.{replyVector, replyLead}
 use Rattle.packet.specs.Sealed.{rightTag}
 use Rattle.command.specs.Command.{ciphOf, outerRows, outer, order, innerRows, inner, named, rightRows, rightful, genuine, judged, weighed}
-use Rattle.command.specs.Blocks.{past, chained}
+use Rattle.command.specs.Blocks.{chained}
 use Rattle.command.specs.Heard.{heard}
 use Rattle.command.specs.declared.Heard.{Heard}
 use Rattle.command.proofs.HeardLaws.{tagRight, heard-outer, heard-tag, heard-text}
@@ -47,7 +48,7 @@ use Rattle.client.specs.OpenReply.{replyOuter, replyInner, opened}
 use Rattle.client.specs.declared.open.Opened.{Opened}
 use Rattle.client.proofs.SealLaws.{lent}
 use Rattle.client.proofs.OpenLaws.{outer-refuses, tag-refuses, inner-refuses, reply-opens}
-use Rattle.promises.specs.Counts.{commandCount, replyCount, sealCount, openCount, oneCount}
+use Rattle.promises.specs.Counts.{commandCount, replyCount, sealCount, openCount, oneCount, wordsIn}
 use Rattle.promises.specs.Step.{answer, request, proof, command, reply, close, revoke}
 
 -- ---- the check of a command
@@ -89,7 +90,7 @@ module _ (v : View) (r : Rights) (p room : List ℕ) where
       (omega arith))
       (omega arith)
 
-  command-count : Counted (heard v r p room)
+  pub command-count : Counted (heard v r p room)
   command-count = by-outer first refl where
     by-tag : (t : Bool) → tagRight (ciphOf v) p ≡ t → first ≡ 0 → Counted (heard v r p room)
     by-tag false w z = subst Counted (heard-tag v r p room z w .0) refl
@@ -106,10 +107,6 @@ sealed-count key iv a text m e =
     length-map (seal (cipher key) iv a text .enciphered) _ ∙ omega (arith, seal-count (cipher key) iv a text, ap blocksIn e)
 
 -- ---- the server's calls
-
--- the reduction words of a packet's text, under the key of the host that its open part names
-abbrev pub wordsIn : State → List ℕ → List ℕ
-wordsIn s p = order (ciphOf (see (s .rights) (s .records) (clientOf p))) p .words
 
 module _ (s : State) where
   pub blocks-command : (p room : List ℕ)
@@ -220,3 +217,9 @@ module _ (key : List ℕ) (n : ℕ) (p room : List ℕ) where
     by-outer : (k : ℕ) → before-tag ≡ k → Opens (opened key n p room)
     by-outer zero z = by-tag right refl z
     by-outer (suc k) z = subst Opens (outer-refuses key n p room (suc k) (sym z) (λ q. omega arith) .0) (sym (rw z at before-count))
+
+-- ---- "All else 0.": a load
+
+pub blocks-load : (b : List ℕ) → loaded b .blocks ≡ 0
+unfolding loaded loadedWith
+blocks-load b = refl

@@ -6,6 +6,7 @@ use contract.Lifetimes.{Lfts}
 use Rattle.capability.proofs.issue.Reads as Issue
 use Rattle.capability.proofs.narrow.Reads as Narrow
 use Rattle.capability.proofs.right_secret.Reads as RightSecret
+use Rattle.book.proofs.load.Reads as Load
 use Rattle.gateway.proofs.request.Reads as Request
 use Rattle.gateway.proofs.proof.Reads as Proof
 use Rattle.gateway.proofs.command.Reads as Command
@@ -56,3 +57,6 @@ narrow-settles κs a x y d e = One.one-narrow _ _ _ x y _ _
 
 pub right-secret-settles : (κs : Lfts 0) (a : _) (x y : _) (d e : _) → RightSecret.Learnt κs a x d → RightSecret.Learnt κs a y e → x ≡ y
 right-secret-settles κs a x y d e = One.one-right-secret _ _ _ x y
+
+pub load-settles : (κs : Lfts 1) (a : _) (x y : _) (d e : _) → Load.Learnt κs a x d → Load.Learnt κs a y e → x ≡ y
+load-settles κs a x y d e = One.one-load _ x y

@@ -24,7 +24,7 @@ use Rattle.promises.specs.Step.{Call, request, proof, command, reply, cl
 use Rattle.promises.specs.Among.{Listed, Among, allowed}
 
 -- whether n stands in the list
-abbrev stands : List ℕ → ℕ → Bool
+abbrev pub stands : List ℕ → ℕ → Bool
 stands [] n = false
 stands (m ∷ ms) n = eqb n m || stands ms n
 
@@ -37,18 +37,18 @@ listed [] n e = absurd (false≢true e)
 listed (m ∷ ms) n e = ⊎-map (eqb-true n m) (listed ms n) (either (eqb n m) _ e)
 
 -- a table's number, row by row, and the number of stages
-none : (ms : List ℕ) → Among ms 0
+pub none : (ms : List ℕ) → Among ms 0
 none ms = inl refl
 
-row : (ms : List ℕ) (t : Bool) (n m : ℕ) → stands ms n ≡ true → Among ms m → Among ms (pick t n m)
+pub row : (ms : List ℕ) (t : Bool) (n m : ℕ) → stands ms n ≡ true → Among ms m → Among ms (pick t n m)
 row ms true n m e h = inr (listed ms n e)
 row ms false n m e h = h
 
-stages : (ms : List ℕ) (a b : ℕ) → Among ms a → Among ms b → Among ms (a then b)
+pub stages : (ms : List ℕ) (a b : ℕ) → Among ms a → Among ms b → Among ms (a then b)
 stages ms zero b p q = q
 stages ms (suc a) b p q = p
 
-ruleset rows = (none, row, stages)
+pub ruleset rows = (none, row, stages)
 
 -- ---- the server's calls
 

@@ -9,6 +9,7 @@ use Rattle.capability.specs.Calls.{issueRefusal, issued, issueBlocks, narrowRef
 use Rattle.capability.specs.declared.chain.Chained.{Chained}
 use Rattle.state.specs.declared.Rights.{Rights}
 use Rattle.state.specs.declared.Records.{Records}
+use Rattle.book.specs.States.{loaded}
 use Rattle.gateway.specs.Close.{closing}
 use Rattle.gateway.specs.Revoke.{revoking}
 use Rattle.gateway.specs.Request.{requesting, requestRoom}
@@ -79,3 +80,8 @@ one-narrow capability word room = settled-room _ _
 pub one-right-secret : (master : List ℕ) (id : ℕ) (words : List ℕ) → One (λ (r : Chained).
     (r .secret ≡ rightSecret master id words) × (r .blocks ≡ length (rightBlocks master id words)))
 one-right-secret master id words x y p q = λ i. record { secret = one (p .0) (q .0) i; blocks = one (p .1) (q .1) i }
+
+-- ---- load
+
+pub one-load : (book : List ℕ) → One (λ r. r ≡ loaded book)
+one-load book = settled _

@@ -8,6 +8,7 @@ use Rattle.octets.proofs.CheckLaws.{isZero-false}
 use Rattle.capability.specs.Calls.{issueRefusal, issued, narrowRefusal, narrowing, written}
 use Rattle.state.specs.declared.State.{State}
 use Rattle.command.specs.Heard.{noOrder, heard, heardRoom}
+use Rattle.book.specs.States.{emptyState, loadedWith, loaded}
 use Rattle.gateway.specs.Close.{closing}
 use Rattle.gateway.specs.Revoke.{revoking}
 use Rattle.gateway.specs.Request.{requesting, requestRoom}
@@ -50,3 +51,9 @@ pub refusal-open : (key : List ℕ) (expected : ℕ) (packet room : List ℕ) �
     → (openRoom key expected packet room ≡ room) × (opened key expected packet room .length ≡ 0)
 unfolding opened openRoom
 refusal-open key expected packet room d = rw (isZero-false _ d) (refl, refl)
+
+-- ---- "a refused one makes a state with no hosts and no interfaces"
+
+pub refusal-load : (book : List ℕ) → loaded book .number ≢ 0 → loaded book .state ≡ emptyState
+unfolding loaded loadedWith
+refusal-load book d = rw (isZero-false _ d)

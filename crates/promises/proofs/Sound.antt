@@ -4,7 +4,7 @@
 use mathlib.Core.Path.{_≡_, refl}
 use mathlib.Core.Bool.{true, not}
 use mathlib.Core.List.{List, [], _∷_}
-use Prim.Native.Nat.{ℕ, _-_, _<_, _^_}
+use Prim.Native.Nat.{ℕ, _+_, _*_, _-_, _≤_, _<_, _^_}
 use native.Mathlib.Omega.{arith}
 use lib.Bits.{bitAnd, and-le-l}
 use lib.ListN.{getD}
@@ -12,6 +12,7 @@ use Rattle.octets.specs.Checks.{_when_, isZero}
 use Rattle.octets.proofs.CheckLaws.{passed-of, isZero-true}
 use Rattle.state.specs.declared.State.{State}
 use Rattle.state.specs.declared.Rights.{Rights}
+use Rattle.state.specs.Flat.{withWords}
 use Rattle.state.specs.Sound.{soundRights}
 use Rattle.octets.proofs.CheckLaws.{pick-ind}
 use Rattle.state.proofs.SoundLaws.{sound-facts, sound-withWord}
@@ -23,17 +24,29 @@ use Rattle.gateway.specs.Revoke.{revokeRefusal, revoking}
 use Rattle.promises.specs.Step.{Call, request, proof, command, reply, close, revoke, next}
 use Rattle.promises.specs.Series.{after}
 
+-- what an accepted revocation names: the interface and the entry are there, and the entry's word stands in its place among any words ws
+pub record Revocable (r : Rights) (i e : ℕ) : Type 0 where
+  pub interface : (1 ≤ i) × (i ≤ r .interfaces)
+  pub entry : (1 ≤ e) × (e ≤ getD (r .entries) (i - 1) 0)
+  pub word : (ws : List ℕ) → rightOf (withWords r ws) i e .word ≡ getD ws ((i - 1) * 16 + (e - 1)) 0
+
+pub revocable : (r : Rights) (i e : ℕ) → revokeRefusal r i e ≡ 0 → Revocable r i e
+unfolding revokeRefusal
+revocable r i e z =
+    let rows = passed-of (39 when not (soundRights r) ∷ 14 when noSuch i (r .interfaces) ∷ 15 when noSuch e (rightOf r i e .entries) ∷ []) refl z in
+    let there = rw (entries-there r i e (rows .1 .0)) at (rows .1 .1 .0) in record {
+      interface = such i (r .interfaces) (rows .1 .0);
+      entry = such e (getD (r .entries) (i - 1) 0) there;
+      word = λ ws. word-there (withWords r ws) i e (rows .1 .0) there;
+    }
+
 -- an entry's word, AND another, fits the interface's command count
 word-fits : (r : Rights) (i e w : ℕ) → soundRights r ≡ true → revokeRefusal r i e ≡ 0
     → bitAnd (rightOf r i e .word) w < 2 ^ getD (r .commands) (i - 1) 0
-unfolding revokeRefusal
 word-fits r i e w h z =
-    let rows = passed-of (39 when not (soundRights r) ∷ 14 when noSuch i (r .interfaces) ∷ 15 when noSuch e (rightOf r i e .entries) ∷ []) refl z in
-    let there = rw (entries-there r i e (rows .1 .0)) at (rows .1 .1 .0) in
-    let interface = such i (r .interfaces) (rows .1 .0) in
-    let entry = such e (getD (r .entries) (i - 1) 0) there in
+    let known = revocable r i e z in
     let below = sound-facts r h .interface (i - 1) (omega arith) .word (e - 1) (omega arith) in
-    omega (arith, and-le-l (rightOf r i e .word) w, word-there r i e (rows .1 .0) there)
+    omega (arith, and-le-l (rightOf r i e .word) w, known .word (r .words))
 
 pub sound-kept : (s : State) (c : Call) → soundRights (s .rights) ≡ true → soundRights (next s c .rights) ≡ true
 unfolding next revoking

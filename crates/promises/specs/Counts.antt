@@ -7,6 +7,8 @@ use Rattle.octets.specs.Checks.{pick, isZero}
 use Rattle.octets.specs.Range.{between}
 use Rattle.ghash.specs.Ghash.{blocksIn}
 use Rattle.capability.specs.Chain.{before}
+use Rattle.state.specs.declared.State.{State}
+use Rattle.promises.specs.Text.{orderIn}
 
 -- "Command refused by 39 or 1 to 7: 0; by 8: 2; by 9 to 18: 2 plus sixteenths of the encrypted part, rounded up; by 19 or accepted: that, plus 1,
 -- plus the words before the first all-ones word.": number n, packet of m bytes, reduction words ws
@@ -32,3 +34,7 @@ openCount n m = pick (eqb n 8) 2 (pick (isZero n || between 11 12 n) (2 + blocks
 -- "Accepted proof 1.", "Issue 1, narrow 1. All else 0."
 abbrev pub oneCount : ℕ → ℕ
 oneCount n = pick (isZero n) 1 0
+
+-- the reduction words of a packet's text, under the key of the host that its open part names
+abbrev pub wordsIn : State → List ℕ → List ℕ
+wordsIn s p = orderIn s p .words

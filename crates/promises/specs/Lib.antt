@@ -2,5 +2,12 @@ pub mod Step
 pub mod Series
 pub mod Among
 pub mod One
+pub mod Text
 pub mod Counts
 pub mod Samples
+pub mod Subject
+pub mod Stands
+pub mod Answered
+pub mod Packets
+pub mod Told
+pub mod Alike

@@ -9,6 +9,7 @@ use Rattle.octets.specs.Little.{octets}
 use Rattle.capability.specs.Chain.{allOnes, chainBlocks}
 use Rattle.capability.specs.Rights.{permitted}
 use Rattle.capability.specs.Calls.{issued, narrowRefusal, narrowing}
+use Rattle.state.specs.declared.State.{State}
 use Rattle.state.specs.declared.transitions.Phase.the-variants.{Open}
 use Rattle.grammar.specs.Faults.{fault, none}
 use Rattle.grammar.specs.Checks.{faultOf}
@@ -17,7 +18,9 @@ use Rattle.view.specs.Phases.{fresh}
 use Rattle.view.specs.declared.Right.{Right}
 use Rattle.packet.specs.declared.fields.Order.{Order}
 use Rattle.command.specs.Command.{rightful}
-use Rattle.promises.specs.Counts.{commandCount, replyCount}
+use Rattle.client.specs.OpenReply.{opened}
+use Rattle.promises.specs.Counts.{wordsIn}
+use Rattle.promises.specs.Step.{command, reply, answer}
 
 -- the commands that are permitted, of the n from c on
 unfoldable pub permittedFrom : ℕ → ℕ → ℕ → List ℕ → List ℕ
@@ -57,7 +60,7 @@ bookOf name =
 pub data Sample : Type 0 where
   -- of all command IDs, a byte, just these are permitted
   permits : (entry : ℕ) (words commands : List ℕ) → Sample
-  -- a command is answered so by what its words permit
+  -- the checks of the right that an order names, 15 to 18, answer so by what its words permit
   gives : (entry : ℕ) (words : List ℕ) (command number : ℕ) → Sample
   -- so many words are in the chain
   chains : (words : List ℕ) (count : ℕ) → Sample
@@ -66,6 +69,7 @@ pub data Sample : Type 0 where
   allStale : (last : ℕ) → Sample
   -- a command with so many bytes of payload and those words, by its number
   blocks : (payload : ℕ) (words : List ℕ) (number count : ℕ) → Sample
+  -- a reply with so many bytes of payload, sealed by the server and opened by the client
   replyBlocks : (payload count : ℕ) → Sample
   -- narrowings of an issued capability by these words, one after the other
   narrowings : (words numbers : List ℕ) → Sample
@@ -78,8 +82,14 @@ Holds (gives entry words c n) = rightful (rightWith entry) (orderWith c words) �
 Holds (chains words n) = (secret : List ℕ) → length (chainBlocks secret words) ≡ n
 Holds (isFresh last n so) = (owed : Bool) → fresh (Open last owed) n ≡ so
 Holds (allStale last) = (owed : Bool) (n : ℕ) → n < 65536 → fresh (Open last owed) n ≡ false
-Holds (blocks payload words n count) = commandCount n (96 + payload) words ≡ count
-Holds (replyBlocks payload count) = replyCount payload ≡ count
+Holds (blocks payload words n count) =
+    (s : State) (p room : List ℕ) → length p ≡ 96 + payload → wordsIn s p ≡ words → answer s (command p room) .number ≡ n
+    → answer s (command p room) .blocks ≡ count
+Holds (replyBlocks payload count) =
+    ((s : State) (h n : ℕ) (x room : List ℕ) → length x ≡ payload → answer s (reply h n x room) .number ≡ 0
+      → answer s (reply h n x room) .blocks ≡ count)
+    × ((key : List ℕ) (n : ℕ) (p room : List ℕ) → length p ≡ 32 + payload → opened key n p room .number ≡ 0
+      → opened key n p room .blocks ≡ count)
 Holds (narrowings words numbers) =
     (master : List ℕ) (id : ℕ) (room : List ℕ) → 50 ≤ length room → narrowNumbers (issued master id) words room ≡ numbers
 Holds (names name f) = faultOf (bookOf name) ≡ f

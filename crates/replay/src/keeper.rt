@@ -20,7 +20,7 @@ fn load() -> state::State {
     let rights = s.rights;
     output::text(b"load");
     output::field(r.number as u64);
-    output::field(0);
+    output::field(r.blocks as u64);
     output::field(r.offset as u64);
     output::field(rights.hosts as u64);
     output::field(rights.interfaces as u64);

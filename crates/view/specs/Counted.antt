@@ -1,4 +1,5 @@
--- Document 01, "Numbers of refusal": hosts, interfaces and entries are numbered from 1, and refused when "0 or above the count".
+-- Document 01, "Numbers of refusal": hosts, interfaces and entries are numbered from 1, and there is no such thing where the number is 0 or above
+-- the count.
 use Prim.Native.Nat.{ℕ, _-_}
 use mathlib.Core.Bool.{Bool, _||_}
 use lib.Dec.{ltb}

@@ -1,5 +1,6 @@
 -- What a command sees of the interface and the entry that it names: the interface's command count, entry count and master secret, the entry's
--- group and present word. Of what isn't there it sees zeros.
+-- group and present word. Of what isn't there it sees zeros: place 8 lies past the last
+-- interface, and place 128 past the last entry.
 use Prim.Native.Nat.{ℕ, _+_, _*_}
 use lib.ListN.{getD}
 use Rattle.octets.specs.Room.{sixteenAt}

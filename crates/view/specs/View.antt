@@ -1,5 +1,5 @@
 -- What a call about host h sees of a state: whether it is sound, its counts, and the host's group and record. Where there is no such host
--- it sees group 0 and an idle record.
+-- it sees group 0 and an idle record: place 32 lies past the last.
 use Prim.Native.Nat.{ℕ}
 use lib.ListN.{getD}
 use Rattle.state.specs.declared.Rights.{Rights}

@@ -1,0 +1,50 @@
+-- Demand 3: two sound states that look alike to a machine.
+use mathlib.Core.Path.{_≡_}
+use mathlib.Core.Bool.{Bool, true}
+use Prim.Native.Nat.{ℕ, _+_, _*_, _-_, _<_}
+use lib.ListN.{length, getD}
+use Rattle.octets.specs.Room.{part}
+use Rattle.state.specs.declared.State.{State}
+use Rattle.state.specs.declared.Rights.{Rights}
+use Rattle.state.specs.Flat.{recordOf, Sized}
+use Rattle.state.specs.Sound.{soundRights}
+use Rattle.gateway.specs.Request.{nameAt}
+use Rattle.promises.specs.Stands.{Names}
+use Rattle.promises.specs.Told.{Machine}
+
+-- a sound state, in arrays of their lengths
+pub record Sound (s : State) : Type 0 where
+  pub sound : soundRights (s .rights) ≡ true
+  pub words : length (s .rights .words) ≡ 128
+  pub records : Sized (s .records)
+
+-- A is one of the hosts
+pub record Host (A : Machine) (s : State) : Type 0 where
+  pub number : Names (A .number) (s .rights .hosts)
+  pub name : nameAt (s .rights) (s .names) (A .number - 1) ≡ A .name
+
+-- as many hosts, of the same names and groups
+pub record SameHosts (s t : State) : Type 0 where
+  pub count : s .rights .hosts ≡ t .rights .hosts
+  pub name : (i : ℕ) → i < s .rights .hosts → nameAt (s .rights) (s .names) i ≡ nameAt (t .rights) (t .names) i
+  pub group : (i : ℕ) → i < s .rights .hosts → getD (s .rights .groups) i 0 ≡ getD (t .rights .groups) i 0
+
+-- interface i has the same contents: command count, entry count and master secret, and of each entry its group and its present word
+pub record SameInterface (r q : Rights) (i : ℕ) : Type 0 where
+  pub commands : getD (r .commands) (i - 1) 0 ≡ getD (q .commands) (i - 1) 0
+  pub entries : getD (r .entries) (i - 1) 0 ≡ getD (q .entries) (i - 1) 0
+  pub secret : part (r .secrets) ((i - 1) * 16) 16 ≡ part (q .secrets) ((i - 1) * 16) 16
+  pub owner : (e : ℕ) → Names e (getD (r .entries) (i - 1) 0)
+      → getD (r .owners) ((i - 1) * 16 + (e - 1)) 0 ≡ getD (q .owners) ((i - 1) * 16 + (e - 1)) 0
+  pub word : (e : ℕ) → Names e (getD (r .entries) (i - 1) 0)
+      → getD (r .words) ((i - 1) * 16 + (e - 1)) 0 ≡ getD (q .words) ((i - 1) * 16 + (e - 1)) 0
+
+-- the same hosts, as many interfaces, the same contents of the chosen ones, and the same record of A
+pub record Alike (A : Machine) (chosen : ℕ → Bool) (s t : State) : Type 0 where
+  pub first : Sound s
+  pub second : Sound t
+  pub host : Host A s
+  pub hosts : SameHosts s t
+  pub interfaces : s .rights .interfaces ≡ t .rights .interfaces
+  pub contents : (i : ℕ) → chosen i ≡ true → Names i (s .rights .interfaces) → SameInterface (s .rights) (t .rights) i
+  pub held : recordOf (s .records) (A .number - 1) ≡ recordOf (t .records) (A .number - 1)
