@@ -68,5 +68,13 @@ module _ {A : Machine} where
     unfolding see
     see-same {s} h n e =
         let group = h .hosts .group (A .number - 1) (omega arith) in
-        rw (e, h .first .sound, h .second .sound, ← h .hosts .count, ← h .interfaces,
-          place-there (A .number) (s .rights .hosts) 32 (named-such _ _ (h .host .number)), group, h .held)
+        rw (
+          e,
+          h .first .sound,
+          h .second .sound,
+          ← h .hosts .count,
+          ← h .interfaces,
+          place-there (A .number) (s .rights .hosts) 32 (named-such _ _ (h .host .number)),
+          group,
+          h .held,
+        )

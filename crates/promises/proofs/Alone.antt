@@ -65,7 +65,7 @@ module _ (A : Machine) (chosen : ℕ → Bool) where
   alone s t (c ∷ cs) h n = by-mine (mine A chosen c) refl n (λ u. alone (next s c) u cs) where
     by-mine : (b : Bool) → mine A chosen c ≡ b → AllNamed A chosen t (keepIf b c (keep (mine A chosen) cs))
         → ((u : State) → Alike A chosen (next s c) u → AllNamed A chosen u (keep (mine A chosen) cs)
-          → heard A (next s c) cs ≡ heard A u (keep (mine A chosen) cs))
+        → heard A (next s c) cs ≡ heard A u (keep (mine A chosen) cs))
         → keepIf (about A c) (told A s c) (heard A (next s c) cs) ≡ heard A t (keepIf b c (keep (mine A chosen) cs))
     by-mine true m k later =
         let back = alike-sym h in

@@ -95,6 +95,7 @@ module _ (v : View) (r : Rights) (p room : List ℕ) where
     by-tag : (t : Bool) → tagRight (ciphOf v) p ≡ t → first ≡ 0 → Counted (heard v r p room)
     by-tag false w z = subst Counted (heard-tag v r p room z w .0) refl
     by-tag true w z = subst Counted (heard-text v r p room z w .0) text-count
+
     by-outer : (n : ℕ) → first ≡ n → Counted (heard v r p room)
     by-outer zero z = by-tag (tagRight (ciphOf v) p) refl z
     by-outer (suc n) z = subst Counted (heard-outer v r p room (λ e. omega arith) .0) (sym (outer-count ∙ rw z))
@@ -211,9 +212,11 @@ module _ (key : List ℕ) (n : ℕ) (p room : List ℕ) where
     by-inner (suc k) e z w =
         subst Opens (inner-refuses key n p room z w (suc k) (blocksIn (length p - 28)) (sym e) (λ q. omega arith) refl .0)
         (omega (arith, rw e at after-count))
+
     by-tag : (t : Bool) → right ≡ t → before-tag ≡ 0 → Opens (opened key n p room)
     by-tag false w z = subst Opens (tag-refuses key n p room z w .0) refl
     by-tag true w z = by-inner after-tag refl z w
+
     by-outer : (k : ℕ) → before-tag ≡ k → Opens (opened key n p room)
     by-outer zero z = by-tag right refl z
     by-outer (suc k) z = subst Opens (outer-refuses key n p room (suc k) (sym z) (λ q. omega arith) .0) (sym (rw z at before-count))

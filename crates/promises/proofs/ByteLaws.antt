@@ -61,11 +61,43 @@ xor-byte : (a b : ℕ) → a < 256 → b < 256 → bitXor a b < 256
 xor-byte a b h k = xor-lt 8 a b h k
 
 state-bytes : (f : ℕ → ℕ → ℕ) → ((r c : ℕ) → f r c < 256) → Bytes (state f)
-state-bytes f h =
-    (h 0 0, (h 1 0, (h 2 0, (h 3 0,
-    (h 0 1, (h 1 1, (h 2 1, (h 3 1,
-    (h 0 2, (h 1 2, (h 2 2, (h 3 2,
-    (h 0 3, (h 1 3, (h 2 3, (h 3 3, tt))))))))))))))))
+state-bytes f h = (
+  h 0 0,
+  (
+    h 1 0,
+    (
+      h 2 0,
+      (
+        h 3 0,
+        (
+          h 0 1,
+          (
+            h 1 1,
+            (
+              h 2 1,
+              (
+                h 3 1,
+                (
+                  h 0 2,
+                  (
+                    h 1 2,
+                    (
+                      h 2 2,
+                      (
+                        h 3 2,
+                        (h 0 3, (h 1 3, (h 2 3, (h 3 3, tt)))),
+                      ),
+                    ),
+                  ),
+                ),
+              ),
+            ),
+          ),
+        ),
+      ),
+    ),
+  ),
+)
 
 cell-byte : (s : List ℕ) → Bytes s → (r c : ℕ) → cell s r c < 256
 cell-byte s h r c = byte-at s h (r % 4 + 4 * (c % 4))

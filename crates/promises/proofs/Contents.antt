@@ -64,9 +64,17 @@ module _ (r q : Rights) (i e : ℕ) (n : r .interfaces ≡ q .interfaces) where
   unfolding rightOf filled
   entry-same h x y =
       let l = such e _ y in
-      rw (place-there i (r .interfaces) 8 x, place-there i (q .interfaces) 8 (rw n at x),
-        place-there e (getD (r .entries) (i - 1) 0) 128 y, place-there e (getD (q .entries) (i - 1) 0) 128 (rw (h .entries) at y),
-        h .commands, h .entries, h .secret, h .owner e l, h .word e l)
+      rw (
+        place-there i (r .interfaces) 8 x,
+        place-there i (q .interfaces) 8 (rw n at x),
+        place-there e (getD (r .entries) (i - 1) 0) 128 y,
+        place-there e (getD (q .entries) (i - 1) 0) 128 (rw (h .entries) at y),
+        h .commands,
+        h .entries,
+        h .secret,
+        h .owner e l,
+        h .word e l,
+      )
 
   pub right-same : (Names i (r .interfaces) → SameInterface r q i) → SameRight r q i e
   right-same f = by-interface (noSuch i (r .interfaces)) refl where

@@ -88,6 +88,7 @@ module _ (r : Rights) (i e w : ℕ) (l : length (r .words) ≡ 128) (z : revokeR
   loses-here j d c h = by-place (eqb (entryPlace r j d) at-entry) refl where
     there : rightOf revoked j d .word ≡ getD (revoked .words) (entryPlace r j d) 0
     there = word-ind r (i - 1) (e - 1) _ (λ t. rightOf t j d .word ≡ getD (t .words) (entryPlace r j d) 0) (λ a b. refl) refl
+
     by-place : (t : Bool) → eqb (entryPlace r j d) at-entry ≡ t → BitSet c (getD (r .words) (entryPlace r j d) 0)
     by-place true q =
         let same : entryPlace r j d ≡ at-entry = eqb-true _ _ q in

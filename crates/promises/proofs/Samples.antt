@@ -45,20 +45,21 @@ counted payload n words s p room l w e =
 
 replied : (payload : ℕ) →
     ((s : State) (h n : ℕ) (x room : List ℕ) → length x ≡ payload → answer s (reply h n x room) .number ≡ 0
-      → answer s (reply h n x room) .blocks ≡ replyCount payload)
+    → answer s (reply h n x room) .blocks ≡ replyCount payload)
     × ((key : List ℕ) (n : ℕ) (p room : List ℕ) → length p ≡ 32 + payload → opened key n p room .number ≡ 0
-      → opened key n p room .blocks ≡ replyCount payload)
-replied payload =
-    ( (λ s h n x room l e. blocks-reply s h n x room ∙ ap₂ (λ (k m : ℕ). pick (isZero k) (replyCount m) 0) e l)
-    , (λ key n p room l e. blocks-open key n p room ∙ ap₂ openCount e l ∙ ap (λ (m : ℕ). 2 + blocksIn m) (omega arith)) )
+    → opened key n p room .blocks ≡ replyCount payload)
+replied payload = (
+  (λ s h n x room l e. blocks-reply s h n x room ∙ ap₂ (λ (k m : ℕ). pick (isZero k) (replyCount m) 0) e l),
+  (λ key n p room l e. blocks-open key n p room ∙ ap₂ openCount e l ∙ ap (λ (m : ℕ). 2 + blocksIn m) (omega arith)),
+)
 
 -- all by computation but P5's order of numbers and, in P9, the lengths of the secrets and of the room
 pub samples-hold : AllHold samples
 unfolding
-  permittedFrom permitted allAllow allows rightful noSuch chainBlocks blocksIn before
-  narrowNumbers issued narrowRefusal narrowing capability wordBytes octets number narrowed open? wordAt firstSecret
-  faultOf bodyChecks nameChecks usedBelow kindFits ordinal sizeFits first each fitting letter innerSpace
-  format rows total kind id start size hostsBefore expected lead nameStart name
+    permittedFrom permitted allAllow allows rightful noSuch chainBlocks blocksIn before
+    narrowNumbers issued narrowRefusal narrowing capability wordBytes octets number narrowed open? wordAt firstSecret
+    faultOf bodyChecks nameChecks usedBelow kindFits ordinal sizeFits first each fitting letter innerSpace
+    format rows total kind id start size hostsBefore expected lead nameStart name
 samples-hold =
     refl and refl
     and refl

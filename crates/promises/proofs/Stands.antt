@@ -155,13 +155,25 @@ module _ (s : State) (p : List ℕ) (room : ℕ) where
   unfolding outer number
   of-open-part sound h o fits = of-passed (outerRows (view s p) p room) (
     rw sound,
-    (le-ltb (length p) 96 (h .long),
-    (le-ltb 16480 (length p) (h .short),
-    (rw (h .zeros),
-    (named-such _ _ (h .client),
-    (lt-leb 128 (numberAt p 4 1) (rw (number-byte p 4 (omega arith)) (h .vector)),
-    (rw o,
-    (le-ltb room (length p - 96) (omega arith), tt)))))))
+    (
+      le-ltb (length p) 96 (h .long),
+      (
+        le-ltb 16480 (length p) (h .short),
+        (
+          rw (h .zeros),
+          (
+            named-such _ _ (h .client),
+            (
+              lt-leb 128 (numberAt p 4 1) (rw (number-byte p 4 (omega arith)) (h .vector)),
+              (
+                rw o,
+                (le-ltb room (length p - 96) (omega arith), tt),
+              ),
+            ),
+          ),
+        ),
+      ),
+    ),
   )
 
 -- ---- the tag and the text
@@ -194,13 +206,15 @@ module _ (s : State) (p : List ℕ) (long : 96 ≤ length p) where
   connected o e =
       let phase = open-phase (view s p .held .phase) o in
       let right : tagRight ciph p ≡ true = not-false _ (passed-of (8 when not (tagRight ciph p) ∷ []) refl e .0) in
-      let says = opens ciph (vectorOf p) (additional p) (encrypted p) (tagIn p) right in
-      (phase .0, record {
-        owed = phase .1;
-        connected = phase .2;
-        blocks = says .0;
-        authentic = rw (← filled-there 12 p 4 (omega arith), ← filled-there 16 p 16 (omega arith)) (says .1);
-      })
+      let says = opens ciph (vectorOf p) (additional p) (encrypted p) (tagIn p) right in (
+        phase .0,
+        record {
+          owed = phase .1;
+          connected = phase .2;
+          blocks = says .0;
+          authentic = rw (← filled-there 12 p 4 (omega arith), ← filled-there 16 p 16 (omega arith)) (says .1);
+        },
+      )
 
   of-connected : (last : ℕ) (t : List ℕ) → Connected s p last t → (tagged ciph p ≡ 0) × (text ciph p .bytes ≡ t)
   unfolding tagged text
@@ -231,11 +245,19 @@ module _ (s : State) (p t : List ℕ) (long : 64 ≤ length t) where
     unfolding inner orderOf number
     of-fields h i = of-passed (innerRows (view s p) (clientOf p) (length p - 96) (orderOf t)) (
       rw (eq-eqb _ _ (h .client)),
-      (rw (h .zeros),
-      (rw (eq-eqb _ _ (h .payload)),
-      (rw (e, lt-ltb _ _ (h .number)),
-      (or-zero _ _ (h .group),
-      (named-such _ _ i, tt)))))
+      (
+        rw (h .zeros),
+        (
+          rw (eq-eqb _ _ (h .payload)),
+          (
+            rw (e, lt-ltb _ _ (h .number)),
+            (
+              or-zero _ _ (h .group),
+              (named-such _ _ i, tt),
+            ),
+          ),
+        ),
+      ),
     )
 
   module _ (sound : soundRights (s .rights) ≡ true) (secrets : length (s .rights .secrets) ≡ 128) where
@@ -275,11 +297,15 @@ module _ (s : State) (p t : List ℕ) (long : 64 ≤ length t) where
         rw (f-there (named-such (numberAt t 6 2) _ (h .interface)) entry) (
           of-passed (rightRows there (orderOf t)) (
             entry,
-            (or-zero _ _ (h .group),
-            (lt-leb _ _ (h .command),
-            (rw (and-both _ _ (eq-eqb _ 1 (h .present)) (set-bits _ (wordsOf t) (h .reduced))), tt)))
+            (
+              or-zero _ _ (h .group),
+              (
+                lt-leb _ _ (h .command),
+                (rw (and-both _ _ (eq-eqb _ 1 (h .present)) (set-bits _ (wordsOf t) (h .reduced))), tt),
+              ),
+            ),
           ),
-          rw (filled-there 16 t 48 (omega arith), h .genuine, same-refl)
+          rw (filled-there 16 t 48 (omega arith), h .genuine, same-refl),
         )
 
 -- ---- the whole
@@ -351,7 +377,7 @@ module _ (s : State) (p room : List ℕ) (secrets : length (s .rights .secrets) 
           of-connected s p (h .outside .long) (h .last) t (h .inside) .0,
           rw said (of-fields s p t long (h .last) (h .inside .owed) phase (h .says) (h .entitled .interface)),
           rw said (right .0),
-          rw said (right .1)
+          rw said (right .1),
         )
 
     pub stands-accepted : answer s (command p room) .number ≡ 0

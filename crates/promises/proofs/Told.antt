@@ -67,8 +67,12 @@ module _ (r q : Rights) (s : Records) (p : List ℕ) where
   weighed-same (inr (inl n)) =
       let i : ℕ = inner v (clientOf p) (length p - 96) o in
       let d : i ≢ 0 = inner-refuses n in
-      rw (then-some i (rightful (named r o) o) d, then-some i (rightful (named q o) o) d,
-        then-some i (genuine (named r o) o) d, then-some i (genuine (named q o) o) d)
+      rw (
+        then-some i (rightful (named r o) o) d,
+        then-some i (rightful (named q o) o) d,
+        then-some i (genuine (named r o) o) d,
+        then-some i (genuine (named q o) o) d,
+      )
   weighed-same (inr (inr n)) = rw (n .0, n .1) (stops (inner v (clientOf p) (length p - 96) o) _ _) where
     stops : (i x y : ℕ) → ((i then 15) then x) ≡ ((i then 15) then y)
     stops zero x y = refl
@@ -88,7 +92,7 @@ module _ (r q : Rights) (s : Records) (p : List ℕ) where
   heard-same room f =
       let number = refusal-same (length room) f in
       let blocks : length (commandBlocks v r p (length room)) ≡ length (commandBlocks v q p (length room)) =
-          command-count v r p room ∙ sym (rw (← number) at (command-count v q p room)) in
+      command-count v r p room ∙ sym (rw (← number) at (command-count v q p room)) in
       (rw (number, blocks), rw number)
 
 -- ---- each call

@@ -64,11 +64,11 @@ module _ (A : Machine) (chosen : ℕ → Bool) where
   contents-kept s h (revoke i e w) m j k l =
       by-number (λ r. SameInterface (s .rights) r j) (revokeRefusal (s .rights) i e)
       (λ z. let known = revocable (s .rights) i e z in
-        let facts = sound-facts (s .rights) (h .sound) in
-        let here = facts .interface (i - 1) (omega arith) .entries in
-        let there = facts .interface (j - 1) (omega arith) .entries in
-        let apart : j ≢ i = λ q. true≢false (sym k ∙ ap chosen q ∙ m) in
-        word-elsewhere (s .rights) (i - 1) (e - 1) _ j (λ d x q. apart (omega arith)))
+      let facts = sound-facts (s .rights) (h .sound) in
+      let here = facts .interface (i - 1) (omega arith) .entries in
+      let there = facts .interface (j - 1) (omega arith) .entries in
+      let apart : j ≢ i = λ q. true≢false (sym k ∙ ap chosen q ∙ m) in
+      word-elsewhere (s .rights) (i - 1) (e - 1) _ j (λ d x q. apart (omega arith)))
       (λ z. interface-refl _ j)
 
   contents-same : {s t : State} → Alike A chosen s t → (c : Call) → mine A chosen c ≡ true → answer s c ≡ answer t c
@@ -86,7 +86,7 @@ module _ (A : Machine) (chosen : ℕ → Bool) where
         let in-s = revocable (s .rights) i e x in
         let in-t = revocable (t .rights) i e (y ∙ x) in
         let word : rightOf (s .rights) i e .word ≡ rightOf (t .rights) i e .word =
-            in-s .word (s .rights .words) ∙ h .contents i m (in-s .interface) .word e (in-s .entry) ∙ sym (in-t .word (t .rights .words)) in
+        in-s .word (s .rights .words) ∙ h .contents i m (in-s .interface) .word e (in-s .entry) ∙ sym (in-t .word (t .rights .words)) in
         rw (y, x, word) (word-both (s .rights) (t .rights) (i - 1) (e - 1) _ j (h .first .words) (h .second .words) (h .contents j k l))
     by-answer (suc n) x y = rw (y, x) (h .contents j k l)
 

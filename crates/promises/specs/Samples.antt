@@ -87,9 +87,9 @@ Holds (blocks payload words n count) =
     → answer s (command p room) .blocks ≡ count
 Holds (replyBlocks payload count) =
     ((s : State) (h n : ℕ) (x room : List ℕ) → length x ≡ payload → answer s (reply h n x room) .number ≡ 0
-      → answer s (reply h n x room) .blocks ≡ count)
+    → answer s (reply h n x room) .blocks ≡ count)
     × ((key : List ℕ) (n : ℕ) (p room : List ℕ) → length p ≡ 32 + payload → opened key n p room .number ≡ 0
-      → opened key n p room .blocks ≡ count)
+    → opened key n p room .blocks ≡ count)
 Holds (narrowings words numbers) =
     (master : List ℕ) (id : ℕ) (room : List ℕ) → 50 ≤ length room → narrowNumbers (issued master id) words room ≡ numbers
 Holds (names name f) = faultOf (bookOf name) ≡ f
