@@ -46,15 +46,9 @@ fn size_fits(k: usize, n: usize) -> bool
     ensures { λ r. ⌜ r ≡ sizeFits k n ⌝ }
 {
     if k == 1 {
-        if n < 3 {
-            return false;
-        }
-        return n <= 258;
+        return octets::between(3, 258, n);
     }
-    if n < 31 {
-        return false;
-    }
-    n <= 436
+    octets::between(31, 436, n)
 }
 
 // Where body i has to start: after the rows, or where the last body ended.

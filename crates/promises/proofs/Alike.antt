@@ -14,7 +14,7 @@ use Rattle.promises.proofs.Contents.{interface-refl, interface-sym, int
 use Rattle.promises.proofs.Own.{sized-kept}
 use Rattle.promises.proofs.Revoked.{words-kept}
 use Rattle.promises.proofs.Sound.{sound-kept}
-use Rattle.promises.proofs.Stands.{named-such}
+use Rattle.promises.proofs.TestLaws.{named-such}
 
 pub sound-still : (s : State) (c : Call) → Sound s → Sound (next s c)
 sound-still s c h = record {

@@ -21,7 +21,7 @@ use Rattle.view.proofs.CountedLaws.{such, place-there}
 use Rattle.view.proofs.ViewLaws.{entries-there}
 use Rattle.promises.specs.Stands.{Names}
 use Rattle.promises.specs.Alike.{SameInterface}
-use Rattle.promises.proofs.Stands.{named-such}
+use Rattle.promises.proofs.TestLaws.{named-such}
 
 pub interface-refl : (r : Rights) (i : ℕ) → SameInterface r r i
 interface-refl r i = record { commands = refl; entries = refl; secret = refl; owner = λ e l. refl; word = λ e l. refl }

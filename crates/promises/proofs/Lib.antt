@@ -11,6 +11,7 @@ pub mod Hosts
 pub mod Own
 pub mod Lasting
 pub mod Revoked
+pub mod TestLaws
 pub mod Stands
 pub mod ByteLaws
 pub mod SealedBack

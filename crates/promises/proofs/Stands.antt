@@ -51,54 +51,7 @@ use Rattle.gateway.proofs.CommandLaws.{heard-client}
 use Rattle.promises.specs.Step.{command, answer, next}
 use Rattle.promises.specs.Stands.{BitSet, Names, OpenPart, Connected, Fields, Entitled, wordsOf, Stands}
 use Rattle.promises.specs.Answered.{owing, Answered}
-
--- ---- the tests
-
-pub named-such : (n count : ℕ) → Names n count → noSuch n count ≡ false
-unfolding noSuch
-named-such zero count h = absurd (omega arith)
-named-such (suc n) count h = le-ltb count (suc n) (h .1)
-
--- a group that is 0, or another one
-zero-or : (g h : ℕ) → not (isZero g || eqb g h) ≡ false → (g ≡ 0) ⊎ (g ≡ h)
-zero-or zero h e = inl refl
-zero-or (suc g) h e = inr (eqb-true (suc g) h (not-false _ e))
-
-or-zero : (g h : ℕ) → (g ≡ 0) ⊎ (g ≡ h) → not (isZero g || eqb g h) ≡ false
-or-zero zero h e = refl
-or-zero (suc g) h (inl e) = absurd (omega arith)
-or-zero (suc g) h (inr e) = rw (eq-eqb (suc g) h e)
-
--- bytes whose number is 0
-only-zeros : (k : ℕ) (bs : List ℕ) → length bs ≡ k → number bs ≡ 0 → bs ≡ replicate k 0
-unfolding number
-only-zeros zero [] l e = refl
-only-zeros zero (b ∷ bs) l e = absurd (omega arith)
-only-zeros (suc k) [] l e = absurd (omega arith)
-only-zeros (suc k) (b ∷ bs) l e =
-    let z : b ≡ 0 = omega arith in
-    cc (z, only-zeros k bs (omega arith) (omega arith))
-
-zeros-at : (s : List ℕ) (at k : ℕ) → at + k ≤ length s → not (isZero (numberAt s at k)) ≡ false → part s at k ≡ replicate k 0
-zeros-at s at k h e = only-zeros k (part s at k) (length-part s at k h) (isZero-true _ (not-false _ e))
-
--- the bits of words
-bits-set : (c : ℕ) (ws : List ℕ) → allAllow c ws ≡ true → (k : ℕ) → k < length ws → BitSet c (getD ws k 0)
-unfolding allAllow allows
-bits-set c [] h k l = absurd (omega arith)
-bits-set c (w ∷ ws) h zero l = eqb-true _ 1 (and-left _ _ h)
-bits-set c (w ∷ ws) h (suc k) l = bits-set c ws (and-right (allows c w) _ h) k (omega arith)
-
-set-bits : (c : ℕ) (ws : List ℕ) → ((k : ℕ) → k < length ws → BitSet c (getD ws k 0)) → allAllow c ws ≡ true
-unfolding allAllow allows
-set-bits c [] f = refl
-set-bits c (w ∷ ws) f = and-both _ _ (eq-eqb _ 1 (f 0 (omega arith))) (set-bits c ws (λ k l. f (suc k) (omega arith)))
-
--- a phase that is open
-open-phase : (p : Phase) → isOpen p ≡ true → (last : ℕ) × (owed : Bool) × (p ≡ Open last owed)
-open-phase Idle e = absurd (false≢true e)
-open-phase Waiting e = absurd (false≢true e)
-open-phase (Open last owed) e = (last, owed, refl)
+use Rattle.promises.proofs.TestLaws.{named-such, zero-or, or-zero, zeros-at, bits-set, set-bits, open-phase}
 
 -- ---- what is seen of the client that the open part names, and of an interface and entry
 
