@@ -18,7 +18,7 @@ use Rattle.layout.specs.Layout.{rows, kind, start, size, lead, nameStart, name,
 use Rattle.grammar.specs.Checks.{faultOf, sizeFits}
 use Rattle.grammar.proofs.HostLaws.{hosts-host}
 use Rattle.grammar.proofs.GoodLaws.{good-host, good-length, good-end, good-commands, good-entries, good-room, good-word, good-counts}
-use Rattle.state.proofs.BelowLaws.{Within}
+use Rattle.state.specs.Sound.{Within}
 use Rattle.book.specs.Contents.{hostCount}
 
 -- one row more has as many hosts or one more

@@ -12,7 +12,7 @@ use Rattle.promises.specs.Alike.{Sound, Host, SameHosts, Alike}
 use Rattle.promises.proofs.Hosts.{hosts-refl, hosts-sym, hosts-trans}
 use Rattle.promises.proofs.Contents.{interface-refl, interface-sym, interface-trans}
 use Rattle.promises.proofs.Own.{sized-kept}
-use Rattle.promises.proofs.Revoked.{words-kept}
+use Rattle.promises.proofs.Typed.{words-kept}
 use Rattle.promises.proofs.Sound.{sound-kept}
 use Rattle.promises.proofs.TestLaws.{named-such}
 

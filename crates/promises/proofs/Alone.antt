@@ -1,14 +1,18 @@
 -- Demand 3, noninterference: what a machine is told depends on its own calls and on the interfaces that it names, and on nothing else.
-use mathlib.Core.Path.{_≡_, refl, sym, ap, _∙_}
+use mathlib.Core.Path.{_≡_, refl, sym, ap, subst, _∙_}
 use mathlib.Core.Bool.{Bool, true, false}
 use mathlib.Core.List.{List, [], _∷_}
 use Prim.Native.Nat.{ℕ}
+use lib.ListN.{length}
 use Rattle.state.specs.declared.State.{State}
 use Rattle.packet.specs.Command.{clientOf}
 use Rattle.promises.specs.Step.{Call, request, proof, command, reply, close, revoke, next}
 use Rattle.promises.specs.Told.{Machine, about, mine, keep, keepIf, told, heard, Named, AllNamed}
+use Rattle.promises.specs.Facts.{Opens}
+use Rattle.promises.specs.Places.{recordAt}
 use Rattle.promises.specs.Alike.{Sound, Host, Alike}
 use Rattle.promises.proofs.Alike.{host-same, alike-refl, alike-sym, alike-trans, see-same}
+use Rattle.promises.proofs.Facts.{text-same, opens-zero, zero-opens}
 use Rattle.promises.proofs.Told.{answer-same}
 use Rattle.promises.proofs.Unwinding.{respect, step}
 
@@ -31,7 +35,10 @@ module _ (A : Machine) (chosen : ℕ → Bool) where
   named-same : {s t : State} → Alike A chosen s t → (c : Call) → Named A chosen s c → Named A chosen t c
   named-same h (request p f room) n = tt
   named-same h (proof k p room) n = tt
-  named-same h (command p room) n = λ e. rw (← see-same h (clientOf p) e, ← h .interfaces) (n e)
+  named-same {s} {t} h (command p room) n = λ e o.
+      let text = text-same s t p (subst (λ n. recordAt s n ≡ recordAt t n) (sym e) (h .held)) in
+      let opens : Opens s p (length room) = zero-opens s p _ (rw (see-same h (clientOf p) e) (opens-zero t p (length room) o)) in
+      rw (← text, ← h .interfaces) (n e opens)
   named-same h (reply k m pay room) n = tt
   named-same h (close k) n = tt
   named-same h (revoke i e w) n = tt

@@ -1,5 +1,6 @@
 -- Document 01, "Blocks counted": the count of every answer is the one that the table in specs/Counts gives for its number.
 use mathlib.Core.Path.{_≡_, refl, sym, ap, subst, _∙_}
+use mathlib.Core.Logic.{_≢_}
 use mathlib.Core.Bool.{Bool, true, false, not}
 use mathlib.Core.List.{List, [], _∷_}
 use Prim.Native.Nat.{ℕ, zero, suc, _+_, _-_}
@@ -17,6 +18,7 @@ use Rattle.gcm.specs.Gcm.{seal}
 use Rattle.gcm.proofs.GcmLaws.{seal-count}
 use Rattle.capability.specs.Enciphered.{Enciphered, underKey, past}
 use Rattle.capability.specs.Chain.{rightSecret, rightBlocks, before}
+use Rattle.capability.specs.Bytes.{wordAt}
 use Rattle.capability.specs.Calls as C
 use Rattle.capability.specs.Calls.{issueRefusal, issueBlocks, narrowRefusal, narrowBlocks}
 use Rattle.capability.proofs.ChainLaws.{count-right}
@@ -27,10 +29,11 @@ use Rattle.view.specs.View.{see}
 use Rattle.view.specs.declared.View.{View}
 use Rattle.view.specs.declared.Right.{Right}
 use Rattle.packet.specs.declared.fields.Order.{Order}
-use Rattle.packet.specs.Command.{clientOf, commandLead, openLead}
+use Rattle.packet.specs.Command.{clientOf, orderOf, commandLead, openLead}
 use Rattle.packet.specs.Reply.{replyVector, replyLead}
 use Rattle.packet.specs.Sealed.{rightTag}
 use Rattle.command.specs.Command.{ciphOf, outerRows, outer, order, innerRows, inner, named, rightRows, rightful, genuine, judged, weighed}
+use Rattle.command.specs.Command.{tagged, opening, commandRefusal}
 use Rattle.command.specs.Blocks.{chained}
 use Rattle.command.specs.Heard.{heard}
 use Rattle.command.specs.declared.Heard.{Heard}
@@ -48,6 +51,7 @@ use Rattle.client.specs.OpenReply.{replyOuter, replyInner, opened}
 use Rattle.client.specs.declared.open.Opened.{Opened}
 use Rattle.client.proofs.SealLaws.{lent}
 use Rattle.client.proofs.OpenLaws.{outer-refuses, tag-refuses, inner-refuses, reply-opens}
+use Rattle.promises.proofs.Facts.{zero-opens, order-there}
 use Rattle.promises.specs.Counts.{commandCount, replyCount, sealCount, openCount, oneCount, wordsIn}
 use Rattle.promises.specs.Step.{answer, request, proof, command, reply, close, revoke}
 
@@ -109,12 +113,37 @@ sealed-count key iv a text m e =
 
 -- ---- the server's calls
 
-module _ (s : State) where
-  pub blocks-command : (p room : List ℕ)
-      → answer s (command p room) .blocks ≡ commandCount (answer s (command p room) .number) (length p) (wordsIn s p)
-  unfolding answer commandHeard
-  blocks-command p room = command-count (see (s .rights) (s .records) (clientOf p)) (s .rights) p room
+-- a command that doesn't open: the table doesn't ask for its words
+module _ (v : View) (p : List ℕ) (room m : ℕ) (ws us : List ℕ) where
+  abbrev Unread : ℕ → Type 0
+  Unread n = n ≢ 0 → commandCount n m ws ≡ commandCount n m us
 
+  unread : Unread (opening v p room)
+  unfolding opening outer tagged
+  unread =
+      refusal-ind (λ (n : ℕ). Unread (n then tagged (ciphOf v) p)) (outerRows v p room)
+      (refusal-ind Unread (8 when not (tagRight (ciphOf v) p) ∷ []) (λ d. absurd (d refl)) (λ d. refl, tt))
+      (λ d. refl, (λ d. refl, (λ d. refl, (λ d. refl, (λ d. refl, (λ d. refl, (λ d. refl, (λ d. refl, tt))))))))
+
+module _ (s : State) (p room : List ℕ) where
+  abbrev seen : View
+  seen = see (s .rights) (s .records) (clientOf p)
+
+  abbrev read : Order
+  read = order (ciphOf seen) p
+
+  by-opening : (n : ℕ) → opening seen p (length room) ≡ n
+      → commandCount (n then weighed seen (s .rights) p read) (length p) (read .words)
+      ≡ commandCount (n then weighed seen (s .rights) p read) (length p) (wordsIn s p)
+  unfolding orderOf wordAt
+  by-opening zero e = rw (order-there s p (length room) (zero-opens s p (length room) e))
+  by-opening (suc n) e = (rw e at (unread seen p (length room) (length p) (read .words) (wordsIn s p))) (λ z. omega arith)
+
+  pub blocks-command : answer s (command p room) .blocks ≡ commandCount (answer s (command p room) .number) (length p) (wordsIn s p)
+  unfolding answer commandHeard heard commandRefusal
+  blocks-command = command-count seen (s .rights) p room ∙ by-opening (opening seen p (length room)) refl
+
+module _ (s : State) where
   pub blocks-proof : (h : ℕ) (p room : List ℕ) → answer s (proof h p room) .blocks ≡ oneCount (answer s (proof h p room) .number)
   unfolding answer proving
   blocks-proof h p room = refl

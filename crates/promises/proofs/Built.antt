@@ -39,13 +39,13 @@ module _ (capability : List ℕ) (a : Ask) (payload : List ℕ) (ec : length cap
   unfolding idOf
   id-low = number-low capability bytes 0 2 (omega arith)
 
-  long : length T ≡ 64 + length payload
+  pub asked-long : length (askText a capability payload) ≡ 64 + length payload
   unfolding askText commandLead octets
-  long = omega (arith, length-append (drop 2 capability) payload, length-drop 2 capability)
+  asked-long = omega (arith, length-append (drop 2 capability) payload, length-drop 2 capability)
 
-  says : orderOf T ≡ asked a capability payload
+  pub asked-order : orderOf (askText a capability payload) ≡ asked a capability payload
   unfolding orderOf askText commandLead octets number wordAt secretOf
-  says =
+  asked-order =
       let client : numberAt T 0 2 ≡ a .client = omega arith in
       let sequence : numberAt T 2 2 ≡ a .sequence = omega arith in
       let group : numberAt T 4 2 ≡ a .group = omega arith in
@@ -58,7 +58,7 @@ module _ (capability : List ℕ) (a : Ask) (payload : List ℕ) (ec : length cap
       let w1 = ap number (part-after capability payload 8 8 (omega arith)) in
       let w2 = ap number (part-after capability payload 16 8 (omega arith)) in
       let w3 = ap number (part-after capability payload 24 8 (omega arith)) in
-      let secret : filled 16 T 48 ≡ secretOf capability = filled-there 16 T 48 (omega (arith, long)) ∙ part-after capability payload 32 16 (omega arith) in
+      let secret : filled 16 T 48 ≡ secretOf capability = filled-there 16 T 48 (omega (arith, asked-long)) ∙ part-after capability payload 32 16 (omega arith) in
       λ i. record {
         client = client i;
         sequence = sequence i;
@@ -72,9 +72,9 @@ module _ (capability : List ℕ) (a : Ask) (payload : List ℕ) (ec : length cap
         secret = secret i;
       }
 
-  carries : payloadOf T ≡ payload
+  pub asked-payload : payloadOf (askText a capability payload) ≡ payload
   unfolding askText commandLead octets
-  carries = drop-at (drop 2 capability) payload 48 (omega (arith, length-drop 2 capability))
+  asked-payload = drop-at (drop 2 capability) payload 48 (omega (arith, length-drop 2 capability))
 
 -- the packet, of a vector and a capability of their lengths
 module _ (key vector capability : List ℕ) (a : Ask) (payload : List ℕ) (ev : length vector ≡ 12) (ec : length capability ≡ 50)
@@ -82,12 +82,12 @@ module _ (key vector capability : List ℕ) (a : Ask) (payload : List ℕ) (ev :
   abbrev p : List ℕ
   p = commandBytes key vector a capability payload
 
-  packet-long : length p ≡ 96 + length payload
+  pub packet-long : length (commandBytes key vector a capability payload) ≡ 96 + length payload
   unfolding commandBytes openLead octets
   packet-long =
-      omega (arith, packet-length key (openLead (a .client)) vector (askText a capability payload) ev, long capability a payload ec bytes few f)
+      omega (arith, packet-length key (openLead (a .client)) vector (askText a capability payload) ev, asked-long capability a payload ec bytes few f)
 
-  built-text : text (cipher key) p .bytes ≡ askText a capability payload
+  pub built-text : text (cipher key) (commandBytes key vector a capability payload) .bytes ≡ askText a capability payload
   unfolding text commandBytes openLead octets
   built-text = sealed-text key (openLead (a .client)) vector (askText a capability payload) 4 refl ev
 
@@ -97,10 +97,10 @@ module _ (key vector capability : List ℕ) (a : Ask) (payload : List ℕ) (ev :
 
   pub built-order : order (cipher key) (commandBytes key vector a capability payload) ≡ asked a capability payload
   unfolding order
-  built-order = ap orderOf built-text ∙ says capability a payload ec bytes few f
+  built-order = ap orderOf built-text ∙ asked-order capability a payload ec bytes few f
 
   pub built-payload : payloadOf (text (cipher key) (commandBytes key vector a capability payload) .bytes) ≡ payload
-  built-payload = ap payloadOf built-text ∙ carries capability a payload ec bytes few f
+  built-payload = ap payloadOf built-text ∙ asked-payload capability a payload ec bytes few f
 
 -- what the client writes at the start of its room, where sealing accepts, opens so
 pub sealed-opens : (key vector capability : List ℕ) (a : Ask) (payload room : List ℕ)

@@ -59,7 +59,7 @@ module _ {s t : State} (h : SameHosts s t) where
 -- ---- what a call leaves as it was
 
 -- what holds of the rights with any words holds of those after a call
-rights-ind : (s : State) (c : Call) (P : Rights → Type 0) → ((ws : List ℕ) → P (withWords (s .rights) ws)) → P (next s c .rights)
+pub rights-ind : (s : State) (c : Call) (P : Rights → Type 0) → ((ws : List ℕ) → P (withWords (s .rights) ws)) → P (next s c .rights)
 unfolding next revoking
 rights-ind s (request p f room) P g = g _
 rights-ind s (proof h p room) P g = g _

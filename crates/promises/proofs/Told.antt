@@ -21,7 +21,7 @@ use Rattle.view.specs.View.{see}
 use Rattle.view.specs.declared.View.{View}
 use Rattle.view.proofs.CountedLaws.{such}
 use Rattle.packet.specs.declared.fields.Order.{Order}
-use Rattle.packet.specs.Command.{clientOf}
+use Rattle.packet.specs.Command.{clientOf, orderOf}
 use Rattle.command.specs.Command.{ciphOf, order, named, innerRows, inner, rightful, genuine, judged, weighed, opening, commandRefusal}
 use Rattle.command.specs.Blocks.{commandBlocks}
 use Rattle.command.specs.Heard.{heard, heardRoom}
@@ -34,7 +34,7 @@ use Rattle.gateway.specs.Revoke.{revokeRefusal, revoking}
 use Rattle.promises.specs.Step.{Call, request, proof, command, reply, close, revoke, answer, next}
 use Rattle.promises.specs.Stands.{Names}
 use Rattle.promises.specs.Subject.{subject}
-use Rattle.promises.specs.Text.{orderIn}
+use Rattle.promises.proofs.Facts.{zero-opens, order-there}
 use Rattle.promises.specs.Told.{Machine, mine, Named}
 use Rattle.promises.specs.Alike.{Alike}
 use Rattle.promises.proofs.Hosts.{found-same, subject-same}
@@ -98,17 +98,18 @@ module _ (r q : Rights) (s : Records) (p : List ℕ) where
 -- ---- each call
 
 module _ {A : Machine} {chosen : ℕ → Bool} {s t : State} (h : Alike A chosen s t) where
+  right-named : (i e : ℕ) → (chosen i ≡ true) ⊎ (¬ Names i (s .rights .interfaces)) → SameRight (s .rights) (t .rights) i e
+  right-named i e (inl k) = right-same (s .rights) (t .rights) i e (h .interfaces) (h .contents i k)
+  right-named i e (inr k) = inr (inl k)
+
   command-same : (p room : List ℕ) → clientOf p ≡ A .number → Named A chosen s (command p room)
       → answer s (command p room) ≡ answer t (command p room)
-  unfolding answer commandHeard commandRoom
+  unfolding answer commandHeard commandRoom orderOf
   command-same p room e n =
-      let same = heard-same (s .rights) (t .rights) (s .records) p room (λ z. by-name (n e z)) in
+      let same = heard-same (s .rights) (t .rights) (s .records) p room (λ z.
+      let opens = zero-opens s p (length room) z in
+      rw (order-there s p (length room) opens) (right-named _ _ (n e opens))) in
       rw (← see-same h (clientOf p) e, same .0, same .1)
-    where
-      by-name : (chosen (orderIn s p .interface) ≡ true) ⊎ (¬ Names (orderIn s p .interface) (s .rights .interfaces))
-          → SameRight (s .rights) (t .rights) (orderIn s p .interface) (orderIn s p .capability)
-      by-name (inl k) = right-same (s .rights) (t .rights) _ _ (h .interfaces) (h .contents _ k)
-      by-name (inr k) = inr (inl k)
 
   revoke-same : (i e : ℕ) → SameRight (s .rights) (t .rights) i e → revokeRefusal (s .rights) i e ≡ revokeRefusal (t .rights) i e
   unfolding revokeRefusal

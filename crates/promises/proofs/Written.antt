@@ -44,6 +44,7 @@ use Rattle.client.specs.OpenReply as O
 use Rattle.client.specs.OpenReply.{openRefusal, opened, openRoom}
 use Rattle.client.proofs.SealLaws.{lent}
 use Rattle.client.proofs.OpenLaws.{outer-passed}
+use Rattle.promises.proofs.ReachedLaws.{length-narrowed}
 use Rattle.promises.specs.Step.{answer, request, proof, command, reply}
 
 -- ---- what is written
@@ -167,14 +168,6 @@ issue-writes master id room e =
     starts _ 50 (issued master id) room e
     (length-capability id (allOnes ∷ allOnes ∷ allOnes ∷ allOnes ∷ []) (firstSecret master id) refl (cipher-length master (idBlock id)))
     (ltb-false (length room) 50 (rows .1 .1 .0))
-
-length-narrowed : (w : ℕ) (ws : List ℕ) → length (narrowed w ws) ≡ length ws
-unfolding narrowed
-length-narrowed w [] = refl
-length-narrowed w (x ∷ xs) = either (eqb x allOnes) (length-narrowed w xs) where
-  either : (t : Bool) → length (narrowed w xs) ≡ length xs → length (pick t (w ∷ xs) (x ∷ narrowed w xs)) ≡ length (x ∷ xs)
-  either true e = refl
-  either false e = rw e
 
 pub narrow-writes : NarrowWrites
 unfolding narrowRefusal narrowing

@@ -5,13 +5,13 @@ use mathlib.Core.Logic.{_≢_}
 use mathlib.Core.Bool.{true}
 use mathlib.Core.List.{List}
 use Prim.Native.Nat.{ℕ, _-_}
-use lib.ListN.{drop}
-use Rattle.octets.specs.Room.{numberAt, placed}
+use Rattle.octets.specs.Room.{atStart}
 use Rattle.state.specs.declared.State.{State}
 use Rattle.state.specs.declared.transitions.Phase.the-variants.{Open}
 use Rattle.state.specs.declared.transitions.Record.{Record}
 use Rattle.state.specs.Flat.{recordOf}
 use Rattle.packet.specs.Command.{orderOf}
+use Rattle.promises.specs.Places.{clientShown, numberSaid, payloadSaid, recordAt}
 use Rattle.promises.specs.Step.{command, answer, next}
 
 -- an open record with n as its last number, and a reply owed for it
@@ -22,7 +22,6 @@ owing r n = record { phase = Open n true; challenge = r .challenge; key = r .key
 -- number; every other record is as it was
 pub record Answered (s : State) (p room t : List ℕ) : Type 0 where
   pub order : answer s (command p room) .order ≡ orderOf t
-  pub payload : answer s (command p room) .room ≡ placed room 0 (drop 64 t)
-  pub client : recordOf (next s (command p room) .records) (numberAt p 0 2 - 1)
-      ≡ owing (recordOf (s .records) (numberAt p 0 2 - 1)) (numberAt t 2 2)
-  pub others : (j : ℕ) → numberAt p 0 2 - 1 ≢ j → recordOf (next s (command p room) .records) j ≡ recordOf (s .records) j
+  pub payload : answer s (command p room) .room ≡ atStart (payloadSaid t) room
+  pub client : recordAt (next s (command p room)) (clientShown p) ≡ owing (recordAt s (clientShown p)) (numberSaid t)
+  pub others : (j : ℕ) → clientShown p - 1 ≢ j → recordOf (next s (command p room) .records) j ≡ recordOf (s .records) j

@@ -8,7 +8,8 @@ use Rattle.octets.specs.Range.{between}
 use Rattle.ghash.specs.Ghash.{blocksIn}
 use Rattle.capability.specs.Chain.{before}
 use Rattle.state.specs.declared.State.{State}
-use Rattle.promises.specs.Text.{orderIn}
+use Rattle.promises.specs.Facts.{textIn}
+use Rattle.promises.specs.Places.{wordsSaid}
 
 -- "Command refused by 39 or 1 to 7: 0; by 8: 2; by 9 to 18: 2 plus sixteenths of the encrypted part, rounded up; by 19 or accepted: that, plus 1,
 -- plus the words before the first all-ones word.": number n, packet of m bytes, reduction words ws
@@ -37,4 +38,4 @@ oneCount n = pick (isZero n) 1 0
 
 -- the reduction words of a packet's text, under the key of the host that its open part names
 abbrev pub wordsIn : State → List ℕ → List ℕ
-wordsIn s p = orderIn s p .words
+wordsIn s p = wordsSaid (textIn s p)

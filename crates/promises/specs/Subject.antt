@@ -1,5 +1,5 @@
--- Document 01, "Calls about a machine": "About A: a request whose name field is A's name; a proof, reply or close with A's number; a command packet
--- with A's client ID in its open part." The number of the host that a call is about; 0 if there is none, as for a revocation.
+-- The number of the host whose record a call may change: "The host named (the lowest, if a lent state repeats a name)", the number that a proof, a
+-- reply or a close gives, the client ID in a command's open part; 0 if there is none, as for a revocation.
 use mathlib.Core.Logic.{_≢_}
 use mathlib.Core.List.{List, [], _∷_}
 use Prim.Native.Nat.{ℕ}
@@ -16,7 +16,7 @@ subject s (reply h n pay room) = h
 subject s (close h) = h
 subject s (revoke i e w) = 0
 
--- no call of a series that starts in s is about host h: s can tell, for no call changes names or numbers (proofs/Lasting, `subject-kept`)
+-- no call of a series that starts in s is one that may change the record of host h: s can tell, for no call changes names or numbers (proofs/Lasting, `subject-kept`)
 abbrev pub NoneAbout : ℕ → State → List Call → Type 0
 NoneAbout h s [] = Unit
 NoneAbout h s (c ∷ cs) = (subject s c ≢ h) × NoneAbout h s cs

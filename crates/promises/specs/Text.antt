@@ -1,18 +1,12 @@
--- What a packet's text says in a state: deciphered under the key of the host that its open part names.
+-- What a packet asks for in a state: the interface, the entry and the command that its text names.
 use mathlib.Core.Path.{_≡_}
 use mathlib.Core.List.{List}
 use Prim.Native.Nat.{ℕ}
 use Rattle.state.specs.declared.State.{State}
-use Rattle.view.specs.View.{see}
-use Rattle.packet.specs.declared.fields.Order.{Order}
-use Rattle.packet.specs.Command.{clientOf}
-use Rattle.command.specs.Command.{ciphOf, order}
+use Rattle.promises.specs.Facts.{textIn}
+use Rattle.promises.specs.Places.{interfaceSaid, entrySaid, commandSaid}
 
-abbrev pub orderIn : State → List ℕ → Order
-orderIn s p = order (ciphOf (see (s .rights) (s .records) (clientOf p))) p
-
--- it names interface i, entry e and command c
 pub record Asks (s : State) (p : List ℕ) (i e c : ℕ) : Type 0 where
-  pub interface : orderIn s p .interface ≡ i
-  pub entry : orderIn s p .capability ≡ e
-  pub command : orderIn s p .command ≡ c
+  pub interface : interfaceSaid (textIn s p) ≡ i
+  pub entry : entrySaid (textIn s p) ≡ e
+  pub command : commandSaid (textIn s p) ≡ c

@@ -10,13 +10,12 @@ use Rattle.octets.specs.Same.{same}
 use Rattle.state.specs.declared.State.{State}
 use Rattle.state.specs.declared.transitions.Record.{Record}
 use Rattle.state.specs.Flat.{recordOf}
-use Rattle.view.specs.View.{see}
 use Rattle.packet.specs.Command.{clientOf}
-use Rattle.command.specs.Command.{opening}
 use Rattle.gateway.specs.Request.{asked}
 use Rattle.promises.specs.Step.{Call, request, proof, command, reply, close, revoke, Said, answer, next}
 use Rattle.promises.specs.Stands.{Names}
-use Rattle.promises.specs.Text.{orderIn}
+use Rattle.promises.specs.Facts.{textIn, Opens}
+use Rattle.promises.specs.Places.{interfaceSaid}
 
 -- a machine, by its name and its number: "The client ID is the host's id in the book."
 pub record Machine : Type 0 where
@@ -64,17 +63,13 @@ abbrev pub heard : Machine → State → List Call → List Told
 heard A s [] = []
 heard A s (c ∷ cs) = keepIf (about A c) (told A s c) (heard A (next s c) cs)
 
--- "A command opens when it gets past 8."
-abbrev pub Opens : State → List ℕ → List ℕ → Type 0
-Opens s p room = opening (see (s .rights) (s .records) (clientOf p)) p (length room) ≡ 0
-
 -- a command of A's that opens names a chosen interface or a number that no interface has
 abbrev pub Named : Machine → (ℕ → Bool) → State → Call → Type 0
 Named A chosen s (request p f room) = Unit
 Named A chosen s (proof h p room) = Unit
 Named A chosen s (command p room) =
-    clientOf p ≡ A .number → Opens s p room
-    → (chosen (orderIn s p .interface) ≡ true) ⊎ (¬ Names (orderIn s p .interface) (s .rights .interfaces))
+    clientOf p ≡ A .number → Opens s p (length room)
+    → (chosen (interfaceSaid (textIn s p)) ≡ true) ⊎ (¬ Names (interfaceSaid (textIn s p)) (s .rights .interfaces))
 Named A chosen s (reply h n pay room) = Unit
 Named A chosen s (close h) = Unit
 Named A chosen s (revoke i e w) = Unit

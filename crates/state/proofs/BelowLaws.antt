@@ -1,4 +1,4 @@
--- A test that passes at each number below n, and a number from 1 to another.
+-- A test that passes at each number below n.
 use mathlib.Core.Path.{_≡_, refl, sym, _∙_}
 use mathlib.Core.Bool.{Bool, true, false, not, _&&_}
 use mathlib.Core.Logic.{⊎-elim}
@@ -50,6 +50,3 @@ module _ (f : ℕ → Bool) where
 
   pub all-done : (n i : ℕ) → n ≤ i → Passed f n i → true ≡ allBelow f n
   all-done n i l p = let e : i ≡ n = omega arith in sym (rw e at (p .1))
-
-abbrev pub Within : ℕ → ℕ → Type 0
-Within most v = (1 ≤ v) × (v ≤ most)

@@ -14,18 +14,12 @@ use Rattle.octets.specs.Range.{between}
 use Rattle.octets.proofs.CheckLaws.{and-left, and-right, and-both}
 use Rattle.octets.proofs.RangeLaws.{between-both, both-between}
 use Rattle.state.specs.declared.Rights.{Rights}
-use Rattle.state.specs.Sound.{allWithin, allWords, interfaceSound, allInterfaces, soundRights}
+use Rattle.state.specs.Sound.{allWithin, allWords, interfaceSound, allInterfaces, soundRights, InterfaceFacts, SoundFacts}
 use Rattle.state.specs.Flat.{withWords, withWord, noRights}
 use Rattle.octets.proofs.CheckLaws.{pick-ind}
-use Rattle.state.proofs.BelowLaws.{Within, below-all, all-below}
+use Rattle.state.proofs.BelowLaws.{below-all, all-below}
 
 -- one interface
-pub record InterfaceFacts (ws : List ℕ) (from n c e : ℕ) : Type 0 where
-  pub span : Within 256 n
-  pub commands : Within 64 c
-  pub entries : Within 16 e
-  pub word : (j : ℕ) → j < e → getD ws (from + j) 0 < 2 ^ c
-
 module _ (ws : List ℕ) (from n c e : ℕ) where
   pub interface-facts : interfaceSound ws from n c e ≡ true → InterfaceFacts ws from n c e
   unfolding interfaceSound allWords
@@ -44,15 +38,8 @@ module _ (ws : List ℕ) (from n c e : ℕ) where
       and-both _ _ (both-between 1 256 n (f .span)) (and-both _ _ (both-between 1 64 c (f .commands)) (and-both _ _ (both-between 1 16 e (f .entries))
       (all-below _ e (λ j l. lt-ltb _ _ (f .word j l)))))
 
-pub record Facts (s : Rights) : Type 0 where
-  pub hosts : s .hosts ≤ 32
-  pub interfaces : s .interfaces ≤ 8
-  pub size : (i : ℕ) → i < s .hosts → Within 256 (getD (s .sizes) i 0)
-  pub interface : (i : ℕ) → i < s .interfaces
-      → InterfaceFacts (s .words) (i * 16) (getD (s .spans) i 0) (getD (s .commands) i 0) (getD (s .entries) i 0)
-
 module _ (s : Rights) where
-  pub sound-facts : soundRights s ≡ true → Facts s
+  pub sound-facts : soundRights s ≡ true → SoundFacts s
   unfolding soundRights allWithin allInterfaces
   sound-facts h =
       let m = and-right (leb (s .hosts) 32) _ h in
@@ -64,7 +51,7 @@ module _ (s : Rights) where
         interface = λ i l. interface-facts _ _ _ _ _ (below-all _ (s .interfaces) e i l);
       }
 
-  pub of-sound : Facts s → soundRights s ≡ true
+  pub of-sound : SoundFacts s → soundRights s ≡ true
   unfolding soundRights allWithin allInterfaces
   of-sound f =
       and-both _ _ (le-leb _ _ (f .hosts)) (and-both _ _ (le-leb _ _ (f .interfaces))

@@ -3,7 +3,7 @@
 -- a count are not judged.
 use mathlib.Core.Bool.{Bool, true, _&&_}
 use mathlib.Core.List.{List}
-use Prim.Native.Nat.{ℕ, zero, suc, _+_, _*_, _^_}
+use Prim.Native.Nat.{ℕ, zero, suc, _+_, _*_, _^_, _≤_, _<_}
 use lib.Dec.{leb, ltb}
 use lib.ListN.{getD}
 use Rattle.octets.specs.Range.{between}
@@ -35,3 +35,23 @@ soundRights s =
     && (leb (s .interfaces) 8
     && (allWithin (s .sizes) 256 (s .hosts)
     && allInterfaces (s .words) (s .spans) (s .commands) (s .entries) (s .interfaces)))
+
+-- ---- the same, as plain facts (proofs/SoundLaws: `sound-facts`, `of-sound`)
+
+-- from 1 to n
+abbrev pub Within : ℕ → ℕ → Type 0
+Within n v = (1 ≤ v) × (v ≤ n)
+
+-- one interface
+pub record InterfaceFacts (ws : List ℕ) (from n c e : ℕ) : Type 0 where
+  pub span : Within 256 n
+  pub commands : Within 64 c
+  pub entries : Within 16 e
+  pub word : (j : ℕ) → j < e → getD ws (from + j) 0 < 2 ^ c
+
+pub record SoundFacts (s : Rights) : Type 0 where
+  pub hosts : s .hosts ≤ 32
+  pub interfaces : s .interfaces ≤ 8
+  pub size : (i : ℕ) → i < s .hosts → Within 256 (getD (s .sizes) i 0)
+  pub interface : (i : ℕ) → i < s .interfaces
+      → InterfaceFacts (s .words) (i * 16) (getD (s .spans) i 0) (getD (s .commands) i 0) (getD (s .entries) i 0)
