@@ -1,19 +1,22 @@
 -- A book's contents as columns over its rows, and that a good book's have room in the arrays.
 use mathlib.Core.Path.{_≡_, ap, _∙_}
 use mathlib.Core.List.{List, map}
-use Prim.Native.Nat.{ℕ, _+_, _-_, _≤_}
+use Prim.Native.Nat.{ℕ, _+_, _-_, _≤_, _<_}
 use native.Mathlib.Nat.{zero-add}
 use native.Mathlib.Omega.{arith}
-use lib.ListN.{length}
+use lib.ListN.{length, getD}
 use Rattle.layout.specs.Layout.{rows, entries}
 use Rattle.grammar.specs.Checks.{faultOf}
 use Rattle.state.specs.declared.Rights.{Rights}
-use Rattle.book.specs.Contents.{Host, Entry, Interface, hostCount, hostsFrom, entriesFrom, interfacesFrom}
+use Rattle.book.specs.Contents.{Host, Entry, Interface, hostCount, hostsFrom, entriesFrom, interfacesFrom, contentsOf}
 use Rattle.book.specs.States.{fill, laid, wordsOf, ownersOf, rightsOf, namesOf, labelsOf}
 use Rattle.book.specs.Columns.{collect, field, bytesOf, words, owners, contents, InRoom}
-use Rattle.book.proofs.FillLaws.{length-collect, map-collect}
+use Rattle.book.proofs.FillLaws.{length-collect, getD-collect, map-collect}
 use Rattle.book.proofs.RowLaws.{hosts-most, hostAt, entryAt, interfaceAt, hosts-collect, entries-collect, interfaces-collect}
 use Rattle.book.proofs.Good.{hosts-within, interfaces-within, name-within, entries-within}
+
+pub count-entries : (b : List ℕ) (i : ℕ) → length (interfaceAt b i .entries) ≡ entries b i
+count-entries b i = ap length (entries-collect b i 0 (entries b i)) ∙ length-collect (entryAt b i) 0 (entries b i)
 
 module _ (b : List ℕ) (h m : ℕ) where
   abbrev pub columns : Rights
@@ -44,9 +47,7 @@ module _ (b : List ℕ) (h m : ℕ) where
         (λ t i. (ap (map f) (entries-collect b i 0 (entries b i)) ∙ map-collect f (entryAt b i) 0 (entries b i)) t)
 
   counts : collect (λ i. length (entriesFrom b i 0 (entries b i))) h m ≡ collect (entries b) h m
-  counts =
-      ap (λ (g : ℕ → ℕ). collect g h m)
-      (λ t i. (ap length (entries-collect b i 0 (entries b i)) ∙ length-collect (entryAt b i) 0 (entries b i)) t)
+  counts = ap (λ (g : ℕ → ℕ). collect g h m) (λ t i. count-entries b i t)
 
   pub rights-columns : rightsOf (contents b h m) ≡ columns
   unfolding rightsOf field bytesOf
@@ -84,3 +85,35 @@ good-room b e =
       labels = λ k l. name-within b e (hostCount b + k) (omega arith) .1;
       entries = λ k l. entries-within b e (hostCount b + k) (omega arith) (omega arith) .1;
     }
+
+-- how many hosts and interfaces the contents have, and what they say of each and of its entries, by the rows
+module _ (b : List ℕ) where
+  pub count-hosts : length (contentsOf b .hosts) ≡ hostCount b
+  unfolding contentsOf
+  count-hosts = ap length (hosts-collect b 0 (hostCount b)) ∙ length-collect (hostAt b) 0 (hostCount b)
+
+  pub count-interfaces : length (contentsOf b .interfaces) ≡ rows b - hostCount b
+  unfolding contentsOf
+  count-interfaces =
+      ap length (interfaces-collect b (hostCount b) (rows b - hostCount b))
+      ∙ length-collect (interfaceAt b) (hostCount b) (rows b - hostCount b)
+
+  pub host-there : (i : ℕ) (d : Host) → i < hostCount b → getD (contentsOf b .hosts) i d ≡ hostAt b i
+  unfolding contentsOf
+  host-there i d l =
+      ap (λ (hs : List Host). getD hs i d) (hosts-collect b 0 (hostCount b))
+      ∙ getD-collect (hostAt b) 0 (hostCount b) i d l
+      ∙ ap (hostAt b) (zero-add i)
+
+  pub interface-there : (i : ℕ) (d : Interface) → i < rows b - hostCount b
+      → getD (contentsOf b .interfaces) i d ≡ interfaceAt b (hostCount b + i)
+  unfolding contentsOf
+  interface-there i d l =
+      ap (λ (is : List Interface). getD is i d) (interfaces-collect b (hostCount b) (rows b - hostCount b))
+      ∙ getD-collect (interfaceAt b) (hostCount b) (rows b - hostCount b) i d l
+
+  pub entry-there : (i j : ℕ) (d : Entry) → j < entries b i → getD (interfaceAt b i .entries) j d ≡ entryAt b i j
+  entry-there i j d l =
+      ap (λ (es : List Entry). getD es j d) (entries-collect b i 0 (entries b i))
+      ∙ getD-collect (entryAt b i) 0 (entries b i) j d l
+      ∙ ap (entryAt b i) (zero-add j)

@@ -43,7 +43,7 @@ module _ (A : Machine) (chosen : ℕ → Bool) where
   named-same h (close k) n = tt
   named-same h (revoke i e w) n = tt
 
-  other : {s t : State} → Alike A chosen s t → (c : Call) → mine A chosen c ≡ false → Alike A chosen (next s c) t
+  pub other : {s t : State} → Alike A chosen s t → (c : Call) → mine A chosen c ≡ false → Alike A chosen (next s c) t
   other {s} h c m = alike-trans (alike-sym (respect A chosen s (h .first) (h .host) c m)) h
 
   -- a call that is none of these isn't about A
@@ -56,7 +56,7 @@ module _ (A : Machine) (chosen : ℕ → Bool) where
   not-about (revoke i e w) m = refl
 
   -- the box that heard only those: its series names no more than the first did
-  alone-named : (s t : State) (cs : List Call) → Alike A chosen s t → AllNamed A chosen s cs → AllNamed A chosen t (keep (mine A chosen) cs)
+  pub alone-named : (s t : State) (cs : List Call) → Alike A chosen s t → AllNamed A chosen s cs → AllNamed A chosen t (keep (mine A chosen) cs)
   alone-named s t [] h n = tt
   alone-named s t (c ∷ cs) h n = by-mine (mine A chosen c) refl (λ u. alone-named (next s c) u cs) where
     by-mine : (b : Bool) → mine A chosen c ≡ b

@@ -11,12 +11,16 @@ pub mod ReachedLaws
 pub mod Written
 pub mod Samples
 pub mod One
-pub mod Contracts
+pub mod SettledGround
+pub mod SettledBook
+pub mod SettledCalls
 pub mod Hosts
 pub mod Own
 pub mod Lasting
 pub mod Typed
+pub mod Found
 pub mod Left
+pub mod Handshake
 pub mod Revoked
 pub mod ByteLaws
 pub mod SealedBack
@@ -29,3 +33,5 @@ pub mod Alike
 pub mod Told
 pub mod Unwinding
 pub mod Alone
+pub mod Ends
+pub mod Books

@@ -1,4 +1,4 @@
--- What the code's types say of a state holds of every loaded state, and every call keeps it.
+-- What the code's types say of a state: every call keeps it. (It holds of every loaded state: `typed-loaded` in Books.)
 use mathlib.Core.Path.{_≡_, refl}
 use mathlib.Core.List.{List, [], _∷_}
 use Prim.Native.Nat.{ℕ, _-_}

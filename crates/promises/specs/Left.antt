@@ -1,7 +1,8 @@
--- "Record, bytes, blocks: what each accepted call leaves". The bytes are `Written`'s and the blocks are `Counts`'; here are the records and the words.
+-- "Each call leaves the record, bytes and block count that document 01 sets". The bytes are in proofs/Written and the blocks in `Counts`; here are the
+-- records and the words.
 use mathlib.Core.Path.{_≡_}
 use mathlib.Core.Logic.{_≢_}
-use mathlib.Core.Bool.{Bool, true, false}
+use mathlib.Core.Bool.{true, false}
 use mathlib.Core.List.{List}
 use Prim.Native.Nat.{ℕ, _≤_}
 use lib.Bits.{bitAnd}
@@ -13,7 +14,7 @@ use Rattle.state.specs.declared.transitions.Phase.the-variants.{Idle, Waiting, 
 use Rattle.state.specs.Flat.{withWords}
 use Rattle.gateway.specs.Proof.{second, third}
 use Rattle.promises.specs.Facts.{textIn}
-use Rattle.promises.specs.Places.{clientShown, numberSaid, recordAt, entryAt}
+use Rattle.promises.specs.Places.{numberSaid, recordAt, entryAt}
 use Rattle.promises.specs.Step.{Call, request, proof, command, reply, close, revoke, next}
 use Rattle.promises.specs.Subject.{subject}
 

@@ -16,6 +16,7 @@ pub mod Packets
 pub mod Reached
 pub mod Ready
 pub mod Left
+pub mod Handshake
 pub mod Boxes
 pub mod Told
 pub mod Alike

@@ -1,5 +1,5 @@
 -- What the code's types say of a state, whose arrays are lists here: each has its length. Every state of the code meets it; so does every loaded one,
--- and every call keeps it (proofs/Typed).
+-- and every call keeps it (proofs/Books, `typed-loaded`; proofs/Typed).
 use mathlib.Core.Path.{_≡_}
 use lib.ListN.{length}
 use Rattle.state.specs.declared.State.{State}
