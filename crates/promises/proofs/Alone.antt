@@ -3,6 +3,7 @@ use mathlib.Core.Path.{_≡_, refl, sym, ap, subst, _∙_}
 use mathlib.Core.Bool.{Bool, true, false}
 use mathlib.Core.List.{List, [], _∷_}
 use Prim.Native.Nat.{ℕ}
+use borrow.Author.Tests.{eqb-false}
 use lib.ListN.{length}
 use Rattle.state.specs.declared.State.{State}
 use Rattle.packet.specs.Command.{clientOf}
@@ -64,6 +65,27 @@ module _ (A : Machine) (chosen : ℕ → Bool) where
         → AllNamed A chosen t (keepIf b c (keep (mine A chosen) cs))
     by-mine true m later = (named-same h c (n .0), later (next t c) (step A chosen h c m (n .0)) (n .1))
     by-mine false m later = later t (other h c m) (n .1)
+
+  -- a call of another's names nothing for A
+  named-other : (s : State) (c : Call) → mine A chosen c ≡ false → Named A chosen s c
+  named-other s (request p f room) m = tt
+  named-other s (proof k p room) m = tt
+  named-other s (command p room) m = λ e. absurd (eqb-false _ _ m e)
+  named-other s (reply k n pay room) m = tt
+  named-other s (close k) m = tt
+  named-other s (revoke i e w) m = tt
+
+  -- and no less: what holds of the run of those calls alone holds of the whole
+  pub named-whole : (s t : State) (cs : List Call) → Alike A chosen s t → AllNamed A chosen t (keep (mine A chosen) cs) → AllNamed A chosen s cs
+  named-whole s t [] h n = tt
+  named-whole s t (c ∷ cs) h n = by-mine (mine A chosen c) refl n (λ u. named-whole (next s c) u cs) where
+    by-mine : (b : Bool) → mine A chosen c ≡ b → AllNamed A chosen t (keepIf b c (keep (mine A chosen) cs))
+        → ((u : State) → Alike A chosen (next s c) u → AllNamed A chosen u (keep (mine A chosen) cs) → AllNamed A chosen (next s c) cs)
+        → AllNamed A chosen s (c ∷ cs)
+    by-mine true m k later =
+        let back = alike-sym h in
+        (named-same back c (k .0), later (next t c) (alike-sym (step A chosen back c m (k .0))) (k .1))
+    by-mine false m k later = (named-other s c m, later t (other h c m) k)
 
   -- and it tells A the same
   alone : (s t : State) (cs : List Call) → Alike A chosen s t → AllNamed A chosen t (keep (mine A chosen) cs)

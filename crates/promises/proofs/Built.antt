@@ -1,10 +1,13 @@
 -- "The work: .. the client's .. sealing of commands": a command that the client builds opens at the server. Its tag is right, its text says the very
--- fields that were asked for, the capability's ID, words and secret, and its payload is the one that was sealed (`sealed-opens`, and of any vector and
--- capability of their lengths `built-tagged`, `built-order` and `built-payload`).
+-- fields that were asked for, the capability's ID, words and secret, and its payload is the one that was sealed (`sealed-opens`, and of any vector
+-- and capability of their lengths `built-tagged`, `built-order` and `built-payload`). And the client seals what is lent in its lengths
+-- (`seal-accepts`).
 use mathlib.Core.Path.{_≡_, refl, ap, _∙_}
+use mathlib.Core.Logic.{_≢_}
 use mathlib.Core.List.{List, [], _∷_, _++_}
 use Prim.Native.Nat.{ℕ, _+_, _≤_, _<_}
 use native.Mathlib.Omega.{arith}
+use borrow.Author.Tests.{eq-eqb, ne-eqb, le-ltb, lt-leb}
 use lib.ListN.{length, drop, length-append, length-drop}
 use lib.Seq.{take-append-le, drop-append-le, drop-drop, drop-at}
 use Rattle.octets.specs.Little.{number, octets, Bytes}
@@ -17,7 +20,7 @@ use Rattle.packet.proofs.SealedLaws.{packet-length}
 use Rattle.command.specs.Command.{tagged, text, order}
 use Rattle.client.specs.Seal.{sealRefusal, sealing, sealRoom, askText, commandBytes}
 use Rattle.client.specs.declared.seal.Ask.{Ask}
-use Rattle.client.proofs.SealLaws.{lent}
+use Rattle.client.proofs.SealLaws.{Lent, lent}
 use Rattle.promises.specs.Packets.{Fits, asked}
 use Rattle.promises.proofs.ByteLaws.{number-low}
 use Rattle.promises.proofs.SealedBack.{sealed-tag, sealed-text}
@@ -58,7 +61,8 @@ module _ (capability : List ℕ) (a : Ask) (payload : List ℕ) (ec : length cap
       let w1 = ap number (part-after capability payload 8 8 (omega arith)) in
       let w2 = ap number (part-after capability payload 16 8 (omega arith)) in
       let w3 = ap number (part-after capability payload 24 8 (omega arith)) in
-      let secret : filled 16 T 48 ≡ secretOf capability = filled-there 16 T 48 (omega (arith, asked-long)) ∙ part-after capability payload 32 16 (omega arith) in
+      let secret : filled 16 T 48 ≡ secretOf capability =
+      filled-there 16 T 48 (omega (arith, asked-long)) ∙ part-after capability payload 32 16 (omega arith) in
       λ i. record {
         client = client i;
         sequence = sequence i;
@@ -101,6 +105,21 @@ module _ (key vector capability : List ℕ) (a : Ask) (payload : List ℕ) (ev :
 
   pub built-payload : payloadOf (text (cipher key) (commandBytes key vector a capability payload) .bytes) ≡ payload
   built-payload = ap payloadOf built-text ∙ asked-payload capability a payload ec bytes few f
+
+-- sealing accepts what is lent in its lengths, with a low vector and a number
+pub seal-accepts : (key vector capability : List ℕ) (sequence payload room : ℕ) → Lent key vector capability payload room
+    → numberAt vector 0 1 < 128 → sequence ≢ 0 → sealRefusal key vector capability sequence payload room ≡ 0
+unfolding sealRefusal
+seal-accepts key vector capability sequence payload room l low some =
+    rw (
+      eq-eqb (length key) 16 (l .key),
+      eq-eqb (length vector) 12 (l .vector),
+      eq-eqb (length capability) 50 (l .capability),
+      lt-leb 128 (numberAt vector 0 1) low,
+      ne-eqb sequence 0 some,
+      le-ltb 16384 payload (l .payload),
+      le-ltb room (96 + payload) (l .room),
+    )
 
 -- what the client writes at the start of its room, where sealing accepts, opens so
 pub sealed-opens : (key vector capability : List ℕ) (a : Ask) (payload room : List ℕ)

@@ -1,5 +1,6 @@
--- What is made of bytes is made of bytes: parts of them, a block's encryption under a key of bytes, and the text of a ciphertext.
-use mathlib.Core.Path.{_≡_, refl}
+-- What is made of bytes is made of bytes: parts of them, a block's encryption under a key of bytes, and the text of a ciphertext. And bytes are the
+-- fields that are read off them, one after the other (`joined`, `field`).
+use mathlib.Core.Path.{_≡_, refl, sym, ap, _∙_}
 use mathlib.Core.Bool.{Bool, true, _&&_}
 use mathlib.Core.List.{List, [], _∷_, _++_}
 use Prim.Native.Nat.{ℕ, zero, suc, _+_, _*_, _/_, _%_, _^_, _≤_, _<_}
@@ -7,7 +8,8 @@ use native.Mathlib.Omega.{arith}
 use borrow.Author.Tests.{ltb-true}
 use lib.Bits.{bitXor, xor-lt}
 use lib.Dec.{ltb}
-use lib.ListN.{length, getD, take, drop}
+use lib.ListN.{length, getD, take, drop, take-append-drop}
+use lib.Seq.{drop-drop}
 use Rattle.octets.specs.Little.{octets, Bytes}
 use Rattle.octets.specs.Room.{part, numberAt}
 use Rattle.octets.proofs.CheckLaws.{and-left, and-right}
@@ -34,7 +36,7 @@ rest-bytes bs h zero = h
 rest-bytes [] h (suc n) = tt
 rest-bytes (b ∷ bs) h (suc n) = rest-bytes bs (h .1) n
 
-append-bytes : (bs cs : List ℕ) → Bytes bs → Bytes cs → Bytes (bs ++ cs)
+pub append-bytes : (bs cs : List ℕ) → Bytes bs → Bytes cs → Bytes (bs ++ cs)
 append-bytes [] cs h k = k
 append-bytes (b ∷ bs) cs h k = (h .0, append-bytes bs cs (h .1) k)
 
@@ -54,6 +56,15 @@ module _ (bs : List ℕ) (h : Bytes bs) (at k : ℕ) where
     -- the number that a part says, written again
     pub octets-back : octets k (numberAt bs at k) ≡ part bs at k
     octets-back = rw (length-part bs at k there) at (octets-number (part bs at k) part-bytes)
+
+-- a part before what comes after it
+pub joined : (t : List ℕ) (at k : ℕ) (rest : List ℕ) → rest ≡ drop (at + k) t → part t at k ++ rest ≡ drop at t
+joined t at k rest e = ap (λ (l : List ℕ). part t at k ++ l) (e ∙ sym (drop-drop k at t)) ∙ take-append-drop k (drop at t)
+
+-- and its number, written again, before that
+pub field : (t : List ℕ) → Bytes t → (at k : ℕ) → at + k ≤ length t → {rest : List ℕ} → rest ≡ drop (at + k) t
+    → octets k (numberAt t at k) ++ rest ≡ drop at t
+field t bytes at k h {rest} e = rw (octets-back t bytes at k h) (joined t at k rest e)
 
 -- ---- AES
 
@@ -140,7 +151,8 @@ next-byte rc k h b r (suc c) = xor-byte _ _ (cell-byte k b r (suc c)) (next-byte
 round-bytes : (key : List ℕ) → Bytes key → (l : ℕ) → Bytes (roundKey key l)
 unfolding roundKey nextKey
 round-bytes key h zero = state-bytes (cell key) (cell-byte key h)
-round-bytes key h (suc l) = state-bytes (nextByte (power l) (roundKey key l)) (next-byte (power l) (roundKey key l) (power-byte l) (round-bytes key h l))
+round-bytes key h (suc l) =
+    state-bytes (nextByte (power l) (roundKey key l)) (next-byte (power l) (roundKey key l) (power-byte l) (round-bytes key h l))
 
 last-bytes : (s k : List ℕ) → Bytes k → Bytes (lastRound s k)
 unfolding lastRound
@@ -150,7 +162,7 @@ last-bytes s k h =
     state-bytes (λ r c. bitXor (cell (shiftRows (subBytes s)) r c) (cell k r c))
     (λ r c. xor-byte _ _ (cell-byte (shiftRows (subBytes s)) shifted r c) (cell-byte k h r c))
 
-cipher-bytes : (key block : List ℕ) → Bytes key → Bytes (cipher key block)
+pub cipher-bytes : (key block : List ℕ) → Bytes key → Bytes (cipher key block)
 unfolding cipher cipherBy
 cipher-bytes key block h = last-bytes _ (roundKey key 10) (round-bytes key h 10)
 

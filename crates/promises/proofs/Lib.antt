@@ -4,11 +4,13 @@ pub mod Refused
 pub mod Sound
 pub mod Numbers
 pub mod Loaded
+pub mod Any
 pub mod Facts
 pub mod Stands
 pub mod Blocks
 pub mod ReachedLaws
 pub mod Written
+pub mod ReachedCalls
 pub mod Samples
 pub mod One
 pub mod SettledGround
@@ -25,8 +27,10 @@ pub mod Revoked
 pub mod ByteLaws
 pub mod SealedBack
 pub mod Replied
+pub mod RepliedOnly
 pub mod Built
 pub mod Ready
+pub mod SealedReady
 pub mod Rebuilt
 pub mod Contents
 pub mod Alike
@@ -35,3 +39,6 @@ pub mod Unwinding
 pub mod Alone
 pub mod Ends
 pub mod Books
+pub mod Dairies
+pub mod Panel
+pub mod NotEmpty

@@ -14,12 +14,8 @@ use Rattle.grammar.specs.Faults.{Check, _at_when_, first, each}
 use Rattle.grammar.specs.Checks.{headChecks, rowChecks, wordChecks, letterChecks, nameChecks, interfaceChecks, bodyChecks, faultOf}
 use Rattle.grammar.proofs.GoodLaws.{good-none}
 use Rattle.book.specs.States.{loaded, loadedWith}
-use Rattle.promises.specs.Among.{Among}
+use Rattle.promises.specs.Among.{Among, bookNumbers}
 use Rattle.promises.proofs.Numbers.{stands, none, row}
-
--- "40: below 8 or above 12,232 bytes (0) .. 48 name used before in its kind (its first byte)."
-abbrev pub bookNumbers : List ℕ
-bookNumbers = 40 ∷ 41 ∷ 42 ∷ 43 ∷ 44 ∷ 45 ∷ 46 ∷ 47 ∷ 48 ∷ []
 
 abbrev pub NumbersLoad : Type 0
 NumbersLoad = (b : List ℕ) → Among bookNumbers (loaded b .number)

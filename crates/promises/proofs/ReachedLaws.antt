@@ -1,20 +1,25 @@
--- A capability that was reached from the issued one by narrowings has its ID, words without a hole, and the secret at the end of their chain.
+-- A capability that was reached from the issued one by narrowings has its ID, words without a hole, and the secret at the end of their chain
+-- (`whole`); it is 50 bytes (`reached-bytes`).
 use mathlib.Core.Path.{_≡_, refl, sym, ap, subst, _∙_}
 use mathlib.Core.Logic.{_≢_}
 use mathlib.Core.Bool.{Bool, true, false}
-use mathlib.Core.List.{List, [], _∷_}
+use mathlib.Core.List.{List, [], _∷_, _++_}
 use Prim.Native.Nat.{ℕ, zero, suc, _≤_, _<_, _^_}
 use native.Mathlib.Omega.{arith}
 use lib.Dec.{eqb}
 use lib.ListN.{length, getD}
 use Rattle.octets.specs.Checks.{pick}
+use Rattle.octets.specs.Little.{octets, Bytes}
+use Rattle.octets.specs.Room.{part}
+use Rattle.octets.proofs.LittleLaws.{bytes-octets}
 use Rattle.aes.proofs.CipherLaws.{cipher-length}
 use Rattle.capability.specs.Chain.{allOnes, idBlock, firstSecret, chain, step, rightSecret, tight, onlyOnes}
-use Rattle.capability.specs.Bytes.{idOf, wordAt, fourAt, secretOf, capability, narrowed, open?}
+use Rattle.capability.specs.Bytes.{idOf, fourAt, secretOf, wordBytes, capability, narrowed, open?}
 use Rattle.capability.specs.Calls.{issued, narrowing}
-use Rattle.capability.proofs.BytesLaws.{id-back, word-at, secret-back}
+use Rattle.capability.proofs.BytesLaws.{id-back, word-at, secret-back, length-capability}
 use Rattle.capability.proofs.ChainLaws.{length-step, chain-narrowed, narrowed-genuine}
 use Rattle.capability.proofs.WordsLaws.{four-written}
+use Rattle.promises.proofs.ByteLaws.{part-bytes, append-bytes, cipher-bytes}
 use Rattle.promises.specs.Reached.{Reached, by-issue, by-narrowing}
 
 pub length-narrowed : (w : ℕ) (ws : List ℕ) → length (narrowed w ws) ≡ length ws
@@ -94,3 +99,38 @@ module _ (master : List ℕ) (id : ℕ) (low : id < 65536) where
   pub whole : (c : List ℕ) → Reached master id c → Whole master id c
   whole _ by-issue = first-whole
   whole _ (by-narrowing c w r l d o) = next-whole c w (whole c r) l d o
+
+  -- the words of the issued one, and of one that is narrowed
+  pub issued-words : fourAt (issued master id) 2 ≡ allOnes ∷ allOnes ∷ allOnes ∷ allOnes ∷ []
+  unfolding issued
+  issued-words = four-of id ones (firstSecret master id) refl low-ones
+
+  pub narrowing-words : (c : List ℕ) (w : ℕ) → Reached master id c → w < 2 ^ 64 → fourAt (narrowing c w) 2 ≡ narrowed w (fourAt c 2)
+  unfolding narrowing
+  narrowing-words c w r l =
+      four-of (idOf c) (narrowed w (fourAt c 2)) (step (secretOf c) w) (length-narrowed w (fourAt c 2))
+      (low-narrowed w (fourAt c 2) l (whole c r .words))
+
+-- ---- bytes
+
+words-bytes : (ws : List ℕ) → Bytes (wordBytes ws)
+unfolding wordBytes
+words-bytes [] = tt
+words-bytes (w ∷ ws) = append-bytes (octets 8 w) (wordBytes ws) (bytes-octets 8 w) (words-bytes ws)
+
+pub capability-bytes : (id : ℕ) (ws secret : List ℕ) → Bytes secret → Bytes (capability id ws secret)
+unfolding capability
+capability-bytes id ws secret h =
+    append-bytes (octets 2 id ++ wordBytes ws) secret (append-bytes (octets 2 id) (wordBytes ws) (bytes-octets 2 id) (words-bytes ws)) h
+
+pub reached-bytes : (master : List ℕ) (id : ℕ) → Bytes master → (c : List ℕ) → Reached master id c → (length c ≡ 50) × Bytes c
+unfolding issued narrowing firstSecret step secretOf
+reached-bytes master id h _ by-issue = (
+  length-capability id _ _ refl (cipher-length master (idBlock id)),
+  capability-bytes id _ _ (cipher-bytes master (idBlock id) h),
+)
+reached-bytes master id h _ (by-narrowing c w r l d o) =
+    let before = reached-bytes master id h c r in (
+      length-capability (idOf c) _ _ (length-narrowed w (fourAt c 2)) (length-step (secretOf c) w),
+      capability-bytes (idOf c) _ _ (cipher-bytes (part c 34 16) _ (part-bytes c (before .1) 34 16)),
+    )

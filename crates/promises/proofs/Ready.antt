@@ -22,7 +22,7 @@ use Rattle.promises.specs.Rules.{Hold, Gives, some}
 use Rattle.promises.specs.Facts.{textIn, Authentic, commandFacts}
 use Rattle.promises.specs.Packets.{keyOf, asked}
 use Rattle.promises.specs.Ready.{Parts, packetOf, WellFormed, Connects, Finds, Permits, Genuine}
-use Rattle.promises.specs.Places.{interfaceSaid, entrySaid, commandSaid, wordsSaid, recordAt, wordOf}
+use Rattle.promises.specs.Places.{interfaceSaid, numberSaid, entrySaid, commandSaid, wordsSaid, recordAt, wordOf}
 use Rattle.promises.specs.Stands.{Names, Permitted}
 use Rattle.promises.specs.Typed.{Typed}
 use Rattle.promises.proofs.Built.{packet-long, built-text, built-tagged, asked-long, asked-order, asked-payload}
@@ -229,6 +229,24 @@ module _ (s : State) (b : Parts) (w : WellFormed b) where
           (hold-append (some 0 9 (commandFacts s p (length room)) ++ textFacts 9 9 s p (textIn s p)) (textFacts 18 2 s p (textIn s p)) upto17
           (subst (λ x. Hold (textFacts 18 2 s p x)) (sym text-back)
           (hold-append (textFacts 18 1 s p t) (textFacts 19 1 s p t) (permits-hold h) (genuine-holds g)))) given
+
+-- ---- what a built packet says, wherever it is heard
+
+module _ (s : State) (b : Parts) (w : WellFormed b) where
+  pub built-client : numberAt (packetOf s b) 0 2 ≡ b .ask .client
+  built-client = client-back s b w
+
+  pub built-long : length (packetOf s b) ≡ 96 + length (b .payload)
+  built-long = long s b w
+
+  pub built-interface : interfaceSaid (textIn s (packetOf s b)) ≡ b .ask .interface
+  built-interface = ap interfaceSaid (text-back s b w) ∙ said s b w .interface
+
+  pub built-number : numberSaid (textIn s (packetOf s b)) ≡ b .ask .sequence
+  built-number = ap numberSaid (text-back s b w) ∙ said s b w .sequence
+
+  pub built-words : wordsSaid (textIn s (packetOf s b)) ≡ fourAt (b .capability) 2
+  built-words = ap wordsSaid (text-back s b w) ∙ said s b w .words
 
 -- ---- the promises
 

@@ -1,15 +1,16 @@
--- Demand 2: "An accepted one, built again with its vector, gives the same bytes": of an accepted command, the client's definition of a sealed command, of the
--- connection's key, the packet's own vector, and the fields, the capability and the payload that the answer hands out, is the packet
--- (`command-rebuilt`); and the client's own call with these accepts and writes it (`command-resealed`). Of a state and a packet whose bytes are bytes.
+-- Demand 2: "An accepted one, built again with its vector, gives the same bytes": of an accepted command, the client's definition of a sealed
+-- command, of the connection's key, the packet's own vector, and the fields, the capability and the payload that the answer hands out, is the packet
+-- (`command-rebuilt`); and the client's own call with these accepts and writes it (`command-resealed`). Of a state and a packet whose bytes are
+-- bytes.
 use mathlib.Core.Path.{_≡_, refl, sym, ap, ap₂, _∙_}
 use mathlib.Core.Bool.{true, false≢true}
 use mathlib.Core.List.{List, [], _∷_, _++_, append-assoc, append-nil}
 use Prim.Native.Nat.{ℕ, _+_, _-_, _*_, _≤_, _<_}
 use native.Mathlib.Omega.{arith}
-use borrow.Author.Tests.{not-false, eqb-true, ltb-true, ltb-false, leb-false, eq-eqb, ne-eqb, le-ltb, lt-leb}
+use borrow.Author.Tests.{not-false, eqb-true, ltb-true, ltb-false, leb-false}
 use lib.Dec.{ltb}
-use lib.ListN.{length, drop, length-drop, take-append-drop}
-use lib.Seq.{take-take, take-add, take-at, drop-at, drop-drop, drop-cons}
+use lib.ListN.{length, drop, length-drop}
+use lib.Seq.{take-take, take-add, take-at, drop-at, drop-cons}
 use Rattle.octets.specs.Checks.{_when_, isZero, Passed}
 use Rattle.octets.specs.Little.{number, octets, Bytes}
 use Rattle.octets.specs.Room.{part, numberAt, placed, filled, atStart}
@@ -18,8 +19,6 @@ use Rattle.octets.proofs.LittleLaws.{length-octets, number-byte}
 use Rattle.octets.proofs.RoomLaws.{length-part, filled-there, length-filled, placed-start}
 use Rattle.aes.specs.Cipher.{cipher}
 use Rattle.aes.proofs.CipherLaws.{cipher-length}
-use Rattle.gcm.specs.Gcm.{zeros, subkey, tagOf, plain, openIf, openUnder, open'}
-use Rattle.gcm.proofs.RoundTrip.{seal-open-bytes, seal-open-tag}
 use Rattle.capability.specs.Bytes.{idOf, wordAt, fourAt, wordBytes, capability}
 use Rattle.capability.proofs.BytesLaws.{id-back, length-capability}
 use Rattle.state.specs.declared.State.{State}
@@ -34,7 +33,7 @@ use Rattle.view.specs.declared.View.{View}
 use Rattle.view.proofs.ViewLaws.{held-there}
 use Rattle.packet.specs.Command.{clientOf, openZeros, additional, vectorOf, tagIn, encrypted, orderOf, payloadOf, commandLead, openLead}
 use Rattle.packet.specs.declared.fields.Order.{Order}
-use Rattle.packet.specs.Sealed.{rightTag, textOf, sealedPacket}
+use Rattle.packet.specs.Sealed.{rightTag, sealedPacket}
 use Rattle.packet.proofs.CommandLaws.{text-length}
 use Rattle.command.specs.Command.{ciphOf, outerRows, outer, tagged, text, order, innerRows, inner, judged, opening, weighed, commandRefusal}
 use Rattle.command.specs.Heard.{heard, heardRoom}
@@ -42,54 +41,48 @@ use Rattle.gateway.specs.Command.{commandHeard, commandRoom}
 use Rattle.client.specs.Seal.{sealRefusal, askText, commandBytes, sealing, sealRoom}
 use Rattle.promises.specs.Step.{answer, command}
 use Rattle.promises.specs.Packets.{keyOf, askOf, shown, payloadIn, rebuilt, resealing, resealRoom}
-use Rattle.promises.proofs.ByteLaws.{part-bytes, rest-bytes, number-low, octets-back, text-bytes}
+use Rattle.promises.proofs.Built.{seal-accepts}
+use Rattle.promises.proofs.ByteLaws.{part-bytes, rest-bytes, number-low, octets-back, joined, field, text-bytes}
+use Rattle.promises.proofs.SealedBack.{sealed-again}
 
--- ---- bytes in their fields, one after the other
+-- the text of an order, of which the zeros are zeros and the payload has its length
+module _ (t : List ℕ) (bytes : Bytes t) (long : 64 ≤ length t) (none : numberAt t 13 3 ≡ 0) (size : numberAt t 10 2 ≡ length (drop 64 t)) where
+  abbrev o : Order
+  o = orderOf t
 
-joined : (t : List ℕ) (at k : ℕ) (rest : List ℕ) → rest ≡ drop (at + k) t → part t at k ++ rest ≡ drop at t
-joined t at k rest e = ap (λ (l : List ℕ). part t at k ++ l) (e ∙ sym (drop-drop k at t)) ∙ take-append-drop k (drop at t)
+  id-same : idOf (shown o) ≡ numberAt t 8 2
+  unfolding orderOf
+  id-same = id-back (o .capability) (o .words) (o .secret) (number-low t bytes 8 2 (omega arith))
 
-module _ (t : List ℕ) (bytes : Bytes t) where
-  field : (at k : ℕ) → at + k ≤ length t → {rest : List ℕ} → rest ≡ drop (at + k) t → octets k (numberAt t at k) ++ rest ≡ drop at t
-  field at k h {rest} e = rw (octets-back t bytes at k h) (joined t at k rest e)
+  after-id : drop 2 (shown o) ≡ wordBytes (fourAt t 16) ++ filled 16 t 48
+  unfolding orderOf capability
+  after-id =
+      ap (drop 2) (append-assoc (octets 2 (o .capability)) (wordBytes (o .words)) (o .secret))
+      ∙ drop-at (octets 2 (o .capability)) (wordBytes (o .words) ++ o .secret) 2 (length-octets 2 (o .capability))
 
-  -- the text of an order, of which the zeros are zeros and the payload has its length
-  module _ (long : 64 ≤ length t) (none : numberAt t 13 3 ≡ 0) (size : numberAt t 10 2 ≡ length (drop 64 t)) where
-    abbrev o : Order
-    o = orderOf t
+  secret-same : filled 16 t 48 ++ drop 64 t ≡ drop 48 t
+  secret-same = rw (filled-there 16 t 48 (omega arith)) (joined t 48 16 (drop 64 t) refl)
 
-    id-same : idOf (shown o) ≡ numberAt t 8 2
-    unfolding orderOf
-    id-same = id-back (o .capability) (o .words) (o .secret) (number-low t bytes 8 2 (omega arith))
+  words-same : wordBytes (fourAt t 16) ++ (filled 16 t 48 ++ drop 64 t) ≡ drop 16 t
+  unfolding wordBytes wordAt
+  words-same =
+      simp (append-assoc, append-nil)
+      (field t bytes 16 8 (omega arith) (field t bytes 24 8 (omega arith)
+      (field t bytes 32 8 (omega arith) (field t bytes 40 8 (omega arith) secret-same))))
 
-    after-id : drop 2 (shown o) ≡ wordBytes (fourAt t 16) ++ filled 16 t 48
-    unfolding orderOf capability
-    after-id =
-        ap (drop 2) (append-assoc (octets 2 (o .capability)) (wordBytes (o .words)) (o .secret))
-        ∙ drop-at (octets 2 (o .capability)) (wordBytes (o .words) ++ o .secret) 2 (length-octets 2 (o .capability))
+  command-same : (rest : List ℕ) → rest ≡ drop 16 t → numberAt t 12 1 ∷ 0 ∷ 0 ∷ 0 ∷ rest ≡ drop 12 t
+  unfolding octets
+  command-same rest e =
+      let zeros : 0 ∷ 0 ∷ 0 ∷ rest ≡ drop 13 t = rw none at (field t bytes 13 3 (omega arith) e) in
+      rw (number-byte t 12 (omega arith), zeros) (sym (drop-cons t 12 0 (omega arith)))
 
-    secret-same : filled 16 t 48 ++ drop 64 t ≡ drop 48 t
-    secret-same = rw (filled-there 16 t 48 (omega arith)) (joined t 48 16 (drop 64 t) refl)
-
-    words-same : wordBytes (fourAt t 16) ++ (filled 16 t 48 ++ drop 64 t) ≡ drop 16 t
-    unfolding wordBytes wordAt
-    words-same =
-        simp (append-assoc, append-nil)
-        (field 16 8 (omega arith) (field 24 8 (omega arith) (field 32 8 (omega arith) (field 40 8 (omega arith) secret-same))))
-
-    command-same : (rest : List ℕ) → rest ≡ drop 16 t → numberAt t 12 1 ∷ 0 ∷ 0 ∷ 0 ∷ rest ≡ drop 12 t
-    unfolding octets
-    command-same rest e =
-        let zeros : 0 ∷ 0 ∷ 0 ∷ rest ≡ drop 13 t = rw none at (field 13 3 (omega arith) e) in
-        rw (number-byte t 12 (omega arith), zeros) (sym (drop-cons t 12 0 (omega arith)))
-
-    text-again : askText (askOf o) (shown o) (payloadOf t) ≡ t
-    unfolding askText commandLead orderOf
-    text-again =
-        rw (id-same, after-id, ← size)
-        (simp append-assoc
-        (field 0 2 (omega arith) (field 2 2 (omega arith) (field 4 2 (omega arith) (field 6 2 (omega arith) (field 8 2 (omega arith) (field 10 2 (omega arith)
-        (command-same _ words-same))))))))
+  text-again : askText (askOf o) (shown o) (payloadOf t) ≡ t
+  unfolding askText commandLead orderOf
+  text-again =
+      rw (id-same, after-id, ← size)
+      (simp append-assoc
+      (field t bytes 0 2 (omega arith) (field t bytes 2 2 (omega arith) (field t bytes 4 2 (omega arith) (field t bytes 6 2 (omega arith)
+      (field t bytes 8 2 (omega arith) (field t bytes 10 2 (omega arith) (command-same _ words-same))))))))
 
 -- ---- the packet
 
@@ -118,19 +111,9 @@ module _ (key p : List ℕ) (bk : Bytes key) (bp : Bytes p) (long : 96 ≤ lengt
     unfolding tagged
     tag-true = not-false _ (passed-of (8 when _ ∷ []) refl right .0)
 
-    plain-text : open' (cipher key) (vectorOf p) (additional p) (encrypted p) (tagIn p)
-        ≡ plain t (zeros ∷ tagOf (cipher key) (subkey (cipher key)) (vectorOf p) (additional p) (encrypted p) .enciphered ++ text (cipher key) p .enciphered)
-    unfolding open' openUnder openIf rightTag text textOf
-    plain-text = rw tag-true
-
     packet-again : sealedPacket key (additional p) (part p 4 12) t ≡ p
-    unfolding sealedPacket
-    packet-again =
-        let vector = filled-there 12 p 4 (omega arith) in
-        let again = seal-open-tag (cipher key) (cipher-length key) (vectorOf p) (additional p) (encrypted p) (tagIn p) t _ plain-text in
-        let coded = seal-open-bytes (cipher key) (cipher-length key) (vectorOf p) (additional p) (encrypted p) (tagIn p) t _ plain-text in
-        rw (← vector, again, coded, vector, filled-there 16 p 16 (omega arith))
-        (simp append-assoc (joined p 0 4 _ (joined p 4 12 _ (joined p 16 16 (drop 32 p) refl))))
+    unfolding text
+    packet-again = sealed-again key p 4 (omega arith) tag-true
 
     -- so is the command that its order asks for, where the fields agree with the packet
     command-again : openZeros p ≡ 0 → orderOf t .client ≡ clientOf p → orderOf t .zeros ≡ 0 → orderOf t .length ≡ length p - 96
@@ -228,7 +211,7 @@ module _ (s : State) (bytes : Bytes (s .records .keys)) (p room : List ℕ) (bp 
 
   accepts : Sized (s .records) → (other : List ℕ) → length p ≤ length other
       → sealRefusal key (part p 4 12) (shown (orderOf T)) (orderOf T .sequence) (length (payloadOf T)) (length other) ≡ 0
-  unfolding sealRefusal order
+  unfolding order
   accepts sized other fits =
       let said = rw key-same at inside in
       let short : length p ≤ 16480 = ltb-false 16480 (length p) (outside .1 .1 .0) in
@@ -236,15 +219,14 @@ module _ (s : State) (bytes : Bytes (s .records .keys)) (p room : List ℕ) (bp 
       rw (take-take 1 12 (drop 4 p) (omega arith)) (leb-false 128 (numberAt p 4 1) (outside .1 .1 .1 .1 .1 .0)) in
       let n : ℕ = orderOf T .sequence in
       let some : 0 < n = fresh-some (v .held .phase) n (not-false (fresh (v .held .phase) n) (said .1 .1 .1 .0)) in
-      rw (
-        eq-eqb (length key) 16 (sized-recordOf (s .records) (clientOf p - 1) sized .key),
-        eq-eqb (length (part p 4 12)) 12 (length-part p 4 12 (omega (arith, long))),
-        eq-eqb (length (shown (orderOf T))) 50 (shown-long T),
-        lt-leb 128 (numberAt (part p 4 12) 0 1) first,
-        ne-eqb n 0 (λ e. omega arith),
-        le-ltb 16384 (length (payloadOf T)) (omega (arith, payload-long)),
-        le-ltb (length other) (96 + length (payloadOf T)) (omega (arith, payload-long, long)),
-      )
+      seal-accepts key (part p 4 12) (shown (orderOf T)) n (length (payloadOf T)) (length other)
+      (record {
+        key = sized-recordOf (s .records) (clientOf p - 1) sized .key;
+        vector = length-part p 4 12 (omega (arith, long));
+        capability = shown-long T;
+        payload = omega (arith, payload-long);
+        room = omega (arith, payload-long, long);
+      }) first (λ e. omega arith)
 
   -- it accepts, in every room that holds the packet, and writes the packet at the start
   pub command-resealed : Sized (s .records) → (other : List ℕ) → length p ≤ length other

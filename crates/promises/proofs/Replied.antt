@@ -37,7 +37,36 @@ use Rattle.promises.specs.Step.{answer, reply}
 use Rattle.promises.specs.Packets.{keyOf, sent}
 use Rattle.promises.proofs.SealedBack.{vector-part, sealed-tag, sealed-text}
 
+-- ---- a packet of a reply's length with the vector of number n, where the client expects number m
+
+module _ (key : List ℕ) (ek : length key ≡ 16) (n : ℕ) (p room : List ℕ) (low : 32 ≤ length p) (high : length p ≤ 16416)
+    (vector : part p 0 12 ≡ replyVector n) (m : ℕ) where
+  -- the rows that are left
+  outer-left : replyOuter key m p (length room)
+      ≡ refusal (5 when not (same (replyVector n) (replyVector m)) ∷ 7 when ltb (length room) (length p - 32) ∷ [])
+  unfolding replyOuter
+  outer-left = rw (eq-eqb (length key) 16 ek, le-ltb (length p) 32 low, le-ltb 16416 (length p) high, vector)
+
+  -- another number has another vector
+  module _ (hn : n < 65536) (hm : m < 65536) (d : m ≢ n) where
+    apart : replyVector n ≡ replyVector m → ⊥
+    unfolding replyVector octets
+    apart e =
+        let first : n % 256 ≡ m % 256 = cc in
+        let second : n / 256 % 256 ≡ m / 256 % 256 = cc in
+        d (omega arith)
+
+    outer-five : replyOuter key m p (length room) ≡ 5
+    outer-five = outer-left ∙ rw (differ-same (replyVector n) (replyVector m) apart)
+
+    pub other-number : opened key m p room .number ≡ 5
+    other-number = sym (ap (λ (a : Opened). a .number) (C.outer-refuses key m p room 5 (sym outer-five) (λ e. omega arith) .0))
+
 -- ---- the packet of a reply, opened
+
+pub reply-long : (key : List ℕ) (n : ℕ) (payload : List ℕ) → length (replyBytes key n payload) ≡ 32 + length payload
+unfolding replyBytes replyVector replyText replyLead octets
+reply-long key n payload = omega (arith, packet-length key [] (replyVector n) (replyText n payload) refl)
 
 module _ (key : List ℕ) (ek : length key ≡ 16) (n : ℕ) (payload : List ℕ) (few : length payload ≤ 16384) where
   abbrev P : List ℕ
@@ -47,8 +76,7 @@ module _ (key : List ℕ) (ek : length key ≡ 16) (n : ℕ) (payload : List ℕ
   T = replyText n payload
 
   long : length P ≡ 32 + length payload
-  unfolding replyBytes replyVector replyText replyLead octets
-  long = omega (arith, packet-length key [] (replyVector n) T refl)
+  long = reply-long key n payload
 
   vector-of : part P 0 12 ≡ replyVector n
   unfolding replyBytes replyVector octets
@@ -66,49 +94,32 @@ module _ (key : List ℕ) (ek : length key ≡ 16) (n : ℕ) (payload : List ℕ
   unfolding replyText replyLead octets
   payload-of = ap (drop 4) text-of
 
-  module _ (room : List ℕ) where
-    -- the lengths are right, and the vector is that of n: the rows that are left where number m is expected
-    outer-left : (m : ℕ) → replyOuter key m P (length room)
-        ≡ refusal (5 when not (same (replyVector n) (replyVector m)) ∷ 7 when ltb (length room) (length P - 32) ∷ [])
-    unfolding replyOuter
-    outer-left m =
-        rw (eq-eqb (length key) 16 ek, le-ltb (length P) 32 (omega (arith, long)), le-ltb 16416 (length P) (omega (arith, long)), vector-of)
+  -- another number is refused: the vector differs
+  five : (room : List ℕ) (m : ℕ) → n < 65536 → m < 65536 → m ≢ n → opened key m P room .number ≡ 5
+  five room m = other-number key ek n P room (omega (arith, long)) (omega (arith, long)) vector-of m
 
-    -- another number has another vector
-    module _ (m : ℕ) (hn : n < 65536) (hm : m < 65536) (d : m ≢ n) where
-      apart : replyVector n ≡ replyVector m → ⊥
-      unfolding replyVector octets
-      apart e =
-          let low : n % 256 ≡ m % 256 = cc in
-          let high : n / 256 % 256 ≡ m / 256 % 256 = cc in
-          d (omega arith)
+  module _ (room : List ℕ) (low : n < 65536) (fits : length payload ≤ length room) where
+    outer-passes : replyOuter key n P (length room) ≡ 0
+    outer-passes =
+        outer-left key ek n P room (omega (arith, long)) (omega (arith, long)) vector-of n
+        ∙ rw (same-refl (replyVector n), le-ltb (length room) (length P - 32) (omega (arith, long)))
 
-      outer-five : replyOuter key m P (length room) ≡ 5
-      outer-five = outer-left m ∙ rw (differ-same (replyVector n) (replyVector m) apart)
+    inner-passes : replyInner n (length P - 32) (O.replyText (cipher key) P .bytes) ≡ 0
+    unfolding replyInner replyText replyLead octets number
+    inner-passes =
+        rw (
+          text-of,
+          eq-eqb (numberAt T 2 2) (length P - 32) (omega (arith, long)),
+          eq-eqb (numberAt T 0 2) n (omega arith),
+        )
 
-      other-number : opened key m P room .number ≡ 5
-      other-number = sym (ap (λ (a : Opened). a .number) (C.outer-refuses key m P room 5 (sym outer-five) (λ e. omega arith) .0))
-
-    module _ (low : n < 65536) (fits : length payload ≤ length room) where
-      outer-passes : replyOuter key n P (length room) ≡ 0
-      outer-passes = outer-left n ∙ rw (same-refl (replyVector n), le-ltb (length room) (length P - 32) (omega (arith, long)))
-
-      inner-passes : replyInner n (length P - 32) (O.replyText (cipher key) P .bytes) ≡ 0
-      unfolding replyInner replyText replyLead octets number
-      inner-passes =
-          rw (
-            text-of,
-            eq-eqb (numberAt T 2 2) (length P - 32) (omega (arith, long)),
-            eq-eqb (numberAt T 0 2) n (omega arith),
-          )
-
-      opens : (opened key n P room .number ≡ 0) × (opened key n P room .length ≡ length payload) × (openRoom key n P room ≡ atStart payload room)
-      opens =
-          let o = C.reply-opens key n P room outer-passes tag-of (blocksIn (length P - 28)) inner-passes refl in (
-            sym (ap (λ (a : Opened). a .number) (o .0)),
-            sym (ap (λ (a : Opened). a .length) (o .0)) ∙ omega (arith, long),
-            sym (o .1) ∙ rw payload-of (placed-start room payload fits),
-          )
+    opens : (opened key n P room .number ≡ 0) × (opened key n P room .length ≡ length payload) × (openRoom key n P room ≡ atStart payload room)
+    opens =
+        let o = C.reply-opens key n P room outer-passes tag-of (blocksIn (length P - 28)) inner-passes refl in (
+          sym (ap (λ (a : Opened). a .number) (o .0)),
+          sym (ap (λ (a : Opened). a .length) (o .0)) ∙ omega (arith, long),
+          sym (o .1) ∙ rw payload-of (placed-start room payload fits),
+        )
 
 -- ---- an accepted reply for number n, of two bytes, to host h
 
@@ -143,4 +154,4 @@ module _ (s : State) (sized : Sized (s .records)) (h n : ℕ) (payload room : Li
 
   -- a client that expects another number refuses it: the vector differs
   pub reply-only : (m : ℕ) → m < 65536 → m ≢ n → (other : List ℕ) → opened (keyOf s h) m (sent s h n payload) other .number ≡ 5
-  reply-only m low d other = other-number (keyOf s h) key-long n payload (known .payload) other m two low d
+  reply-only m low d other = five (keyOf s h) key-long n payload (known .payload) other m two low d

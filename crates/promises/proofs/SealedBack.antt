@@ -1,23 +1,26 @@
 -- A packet under GCM read back: its parts are the additional data, the vector, the tag and the ciphertext that it was made of; the tag is right, and
--- the text is the one that was sealed.
+-- the text is the one that was sealed. And a packet whose tag is right is the one that sealing its text makes (`sealed-again`).
 use mathlib.Core.Path.{_≡_, ap, _∙_}
 use mathlib.Core.Bool.{true}
 use mathlib.Core.List.{List, _++_, append-assoc}
-use Prim.Native.Nat.{ℕ, _+_}
+use Prim.Native.Nat.{ℕ, _+_, _≤_}
+use native.Mathlib.Nat.{zero-add}
 use native.Mathlib.Omega.{arith}
 use lib.ListN.{length, take, drop, length-append}
 use lib.Seq.{take-at, drop-at}
+use Rattle.octets.specs.Little.{Bytes}
 use Rattle.octets.specs.Room.{part, filled}
 use Rattle.octets.proofs.RoomLaws.{filled-there}
-use Rattle.octets.proofs.SameLaws.{same-refl}
+use Rattle.octets.proofs.SameLaws.{same-refl, same-true}
 use Rattle.aes.specs.Cipher.{cipher}
 use Rattle.aes.proofs.CipherLaws.{cipher-length}
 use Rattle.gcm.specs.Gctr.{inc32, gctr}
-use Rattle.gcm.specs.Gcm.{j0, subkey, Sealed, sealUnder, seal}
+use Rattle.gcm.specs.Gcm.{j0, subkey, tagOf, Sealed, sealUnder, seal}
 use Rattle.gcm.proofs.GctrLaws.{gctr-twice}
 use Rattle.gcm.proofs.GcmLaws.{tag-length}
 use Rattle.packet.specs.Sealed.{rightTag, textOf, sealedPacket}
 use Rattle.packet.proofs.SealedLaws.{packet-length}
+use Rattle.promises.proofs.ByteLaws.{joined, text-bytes}
 
 -- what stands after x, up to its own end
 part-at : (x y z : List ℕ) (n m : ℕ) → length x ≡ n → length y ≡ m → part (x ++ y ++ z) n m ≡ y
@@ -73,3 +76,38 @@ module _ (key a iv text : List ℕ) (n : ℕ) (ea : length a ≡ n) (e12 : lengt
 
   pub sealed-text : textOf (cipher key) (filled 12 (sealedPacket key a iv text) n) (drop (n + 28) (sealedPacket key a iv text)) .bytes ≡ text
   sealed-text = rw (vector-back, rest-back) text-right
+
+  -- what is encrypted under a key of bytes is bytes
+  pub sealed-bytes : Bytes key → Bytes text → Bytes (drop (n + 28) (sealedPacket key a iv text))
+  unfolding textOf seal sealUnder
+  sealed-bytes bk bt = rw rest-back (text-bytes key iv text bk bt)
+
+-- a packet p with n bytes of additional data, whose tag is right
+module _ (key p : List ℕ) (n : ℕ) (long : n + 28 ≤ length p)
+    (right : rightTag (cipher key) (part p 0 n) (filled 12 p n) (filled 16 p (n + 12)) (drop (n + 28) p) ≡ true) where
+  abbrev iv : List ℕ
+  iv = filled 12 p n
+
+  abbrev c : List ℕ
+  c = drop (n + 28) p
+
+  abbrev t : List ℕ
+  t = textOf (cipher key) iv c .bytes
+
+  coded-again : seal (cipher key) iv (part p 0 n) t .bytes ≡ c
+  unfolding seal sealUnder textOf
+  coded-again = gctr-twice (cipher key) (cipher-length key) (inc32 (j0 iv)) c
+
+  tag-again : seal (cipher key) iv (part p 0 n) t .tag ≡ filled 16 p (n + 12)
+  unfolding seal sealUnder rightTag textOf
+  tag-again =
+      ap (λ (x : List ℕ). tagOf (cipher key) (subkey (cipher key)) iv (part p 0 n) x .bytes) coded-again
+      ∙ same-true _ (filled 16 p (n + 12)) right
+
+  pub sealed-again : sealedPacket key (part p 0 n) (part p n 12) (textOf (cipher key) (filled 12 p n) (drop (n + 28) p) .bytes) ≡ p
+  unfolding sealedPacket
+  sealed-again =
+      let vector = filled-there 12 p n (omega arith) in
+      let after-tag : n + 28 ≡ n + 12 + 16 = omega arith in
+      rw (← vector, tag-again, coded-again, vector, filled-there 16 p (n + 12) (omega arith))
+      (simp append-assoc (joined p 0 n _ (rw zero-add (joined p n 12 _ (joined p (n + 12) 16 c (rw after-tag))))))

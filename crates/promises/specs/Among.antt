@@ -1,4 +1,4 @@
--- Document 01, "Numbers of refusal": the numbers that "Order." lists for each call, and a number that is 0 or one of a list.
+-- Document 01, "Numbers of refusal": the numbers that "Order." lists for each call and "Book" for a load, and a number that is 0 or one of a list.
 use mathlib.Core.Path.{_≡_}
 use mathlib.Core.Logic.{_⊎_}
 use mathlib.Core.List.{List, [], _∷_}
@@ -23,3 +23,7 @@ allowed (command p room) = 39 ∷ 1 ∷ 2 ∷ 3 ∷ 4 ∷ 5 ∷ 6 ∷ 7 ∷ 8 �
 allowed (reply h n pay room) = 39 ∷ 4 ∷ 6 ∷ 29 ∷ 30 ∷ 7 ∷ []
 allowed (close h) = 39 ∷ 4 ∷ []
 allowed (revoke i e w) = 39 ∷ 14 ∷ 15 ∷ []
+
+-- "Book, each with the offset of the fault. 40: below 8 or above 12,232 bytes (0) .. 48 name used before in its kind (its first byte)."
+abbrev pub bookNumbers : List ℕ
+bookNumbers = 40 ∷ 41 ∷ 42 ∷ 43 ∷ 44 ∷ 45 ∷ 46 ∷ 47 ∷ 48 ∷ []

@@ -1,7 +1,9 @@
 -- Two dairies, for the promises that are shown by an example. In both are a panel, a scale and a filler; the second interface, a mixer, has another
 -- secret, another command count and other rights in each.
+use mathlib.Core.Path.{_≡_}
+use mathlib.Core.Logic.{_≢_}
 use mathlib.Core.Bool.{Bool}
-use mathlib.Core.List.{List, [], _∷_, _++_}
+use mathlib.Core.List.{List, [], _∷_, _++_, map}
 use Prim.Native.Nat.{ℕ}
 use lib.Dec.{eqb}
 use lib.ListN.{replicate}
@@ -12,10 +14,12 @@ use Rattle.client.specs.Seal.{commandBytes}
 use Rattle.client.specs.declared.seal.Ask.{Ask}
 use Rattle.promises.specs.Ready.{Parts}
 use Rattle.promises.specs.Step.{Call, request, proof, command, reply, close, revoke}
-use Rattle.promises.specs.Told.{Machine}
+use Rattle.book.specs.States.{loaded}
+use Rattle.promises.specs.Books.{interfaceIn, InBook, AlikeBooks}
+use Rattle.promises.specs.Told.{Machine, mine, keep, Told, heard, AllNamed}
 
 -- in letters
-abbrev panel : List ℕ
+abbrev pub panel : List ℕ
 panel = 112 ∷ 97 ∷ 110 ∷ 101 ∷ 108 ∷ []
 
 abbrev scale : List ℕ
@@ -65,21 +69,24 @@ theFiller i = eqb i 1
 
 -- ---- the panel's calls
 
-abbrev fresh : List ℕ
+abbrev pub fresh : List ℕ
 fresh = replicate 16 21
 
-abbrev third : List ℕ
+abbrev pub third : List ℕ
 third = replicate 16 33
 
-abbrev room : List ℕ
+abbrev pub room : List ℕ
 room = replicate 48 0
 
 -- the key of its connection
 unfoldable pub panelKey : List ℕ
 panelKey = cipher fresh third
 
+abbrev pub greeting : List ℕ
+greeting = 1 ∷ 0 ∷ 5 ∷ 0 ∷ replicate 16 5 ++ panel
+
 abbrev pub hello : Call
-hello = request (1 ∷ 0 ∷ 5 ∷ 0 ∷ replicate 16 5 ++ panel) fresh room
+hello = request greeting fresh room
 
 abbrev pub proven : Call
 proven = proof 1 (fresh ++ third) room
@@ -127,3 +134,15 @@ northDay =
 abbrev pub southDay : List Call
 southDay =
     close 2 ∷ hello ∷ proven ∷ revoke 2 1 32 ∷ fills ∷ strays ∷ reply 2 1 [] room ∷ takes ∷ fillsAgain ∷ close 2 ∷ []
+
+-- Demand 3, "And it isn't empty: a computed example, two dairies whose other interfaces have other secrets and rights, with series that meet every
+-- hypothesis and in which A's commands are accepted, refused by 14 and by 18." The panel's five answers are those of its request, its proof and its
+-- three commands.
+pub record NotEmpty : Type 0 where
+  pub host : InBook thePanel north
+  pub books : AlikeBooks theFiller north south
+  pub secrets : interfaceIn north 2 .secret ≢ interfaceIn south 2 .secret
+  pub rights : interfaceIn north 2 .entries ≢ interfaceIn south 2 .entries
+  pub calls : keep (mine thePanel theFiller) northDay ≡ keep (mine thePanel theFiller) southDay
+  pub named : AllNamed thePanel theFiller (loaded north .state) northDay
+  pub numbers : map (λ (t : Told). t .said .number) (heard thePanel (loaded north .state) northDay) ≡ 0 ∷ 0 ∷ 0 ∷ 14 ∷ 18 ∷ []

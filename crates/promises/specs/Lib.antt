@@ -3,6 +3,7 @@ pub mod Typed
 pub mod Step
 pub mod Series
 pub mod Among
+pub mod Any
 pub mod One
 pub mod Rules
 pub mod Stands
