@@ -42,3 +42,4 @@ pub mod Books
 pub mod Dairies
 pub mod Panel
 pub mod NotEmpty
+pub mod Boxes

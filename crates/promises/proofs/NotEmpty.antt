@@ -59,7 +59,7 @@ panel3 : Panel s3 1 15
 panel3 = fills-leaves s2 15 panel2 refl narrower narrower-reached 12 narrower-words refl
 
 panel4 : Panel s4 1 15
-panel4 = subst (λ s. Panel s 1 15) (sym (refusal-keeps s3 strays (λ e. omega (arith, strays-refused s3 15 panel3)) .0)) panel3
+panel4 = subst (λ s. Panel s 1 15) (sym (refusal-keeps s3 strays (λ e. omega (arith, strays-refused s3 1 15 panel3 (omega arith))) .0)) panel3
 
 panel5 : Panel s5 1 11
 panel5 = takes-leaves s4 1 panel4
@@ -97,8 +97,8 @@ alone-numbers =
     let asked = request-accepted s0 1 panel greeting fresh third room room well-made in
     let proved = proof-accepted s0 1 panel greeting fresh third room room well-made in
     let filled = fills-accepted s2 15 panel2 refl narrower narrower-reached 12 narrower-words refl in
-    let strayed = strays-refused s3 15 panel3 in
-    let again = again-refused s5 11 panel5 (λ e. absurd (omega arith)) in
+    let strayed = strays-refused s3 1 15 panel3 (omega arith) in
+    let again = again-refused s5 1 11 panel5 (omega arith) (λ e. absurd (omega arith)) in
     λ j. asked j ∷ proved j ∷ filled j ∷ strayed j ∷ again j ∷ []
 
 pub not-empty : NotEmpty

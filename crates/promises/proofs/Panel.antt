@@ -78,16 +78,26 @@ twos w h (suc (suc zero)) l = refl
 twos w h (suc (suc (suc zero))) l = refl
 twos w h (suc (suc (suc (suc k)))) l = absurd (omega arith)
 
+-- a capability of its length, and parts with it
+pub formed-by : (n i : ℕ) (c : List ℕ) → n < 128 → i < 65536 → (length c ≡ 50) × Bytes c → WellFormed (asks n i c)
+formed-by n i c l m bytes = record {
+  fits = record { client = omega arith; sequence = omega arith; group = omega arith; interface = m; command = omega arith };
+  vector = refl;
+  low = l;
+  capability = bytes .0;
+  bytes = bytes .1;
+  payload = omega arith;
+}
+
+pub bytes-of : (c : List ℕ) → Reached master 1 c → (length c ≡ 50) × Bytes c
+bytes-of c r = reached-bytes master 1 (replicate-bytes 16 3 (omega arith)) c r
+
 pub well-formed : (n i : ℕ) (c : List ℕ) → n < 128 → i < 65536 → Reached master 1 c → WellFormed (asks n i c)
-well-formed n i c l m r =
-    let bytes = reached-bytes master 1 (replicate-bytes 16 3 (omega arith)) c r in record {
-      fits = record { client = omega arith; sequence = omega arith; group = omega arith; interface = m; command = omega arith };
-      vector = refl;
-      low = l;
-      capability = bytes .0;
-      bytes = bytes .1;
-      payload = omega arith;
-    }
+well-formed n i c l m r = formed-by n i c l m (bytes-of c r)
+
+-- their ID
+pub named-one : (c : List ℕ) → Reached master 1 c → idOf c ≡ 1
+named-one c r = R.whole master 1 low c r .named
 
 -- ---- the panel is connected: its last accepted number, and the present word of the filler's entry
 
@@ -100,7 +110,7 @@ pub record Panel (s : State) (last w : ℕ) : Type 0 where
   pub key : recordAt s 1 .key ≡ panelKey
 
 module _ (s : State) (last w : ℕ) (h : Panel s last w) where
-  module _ (n i : ℕ) (c : List ℕ) (r : Reached master 1 c) where
+  module _ (n i : ℕ) (c : List ℕ) where
     abbrev b : Parts
     b = asks n i c
 
@@ -121,10 +131,7 @@ module _ (s : State) (last w : ℕ) (h : Panel s last w) where
         → P (commandBytes panelKey (b .vector) (b .ask) (b .capability) (b .payload))
     under-key P x = subst (λ k. P (commandBytes k (b .vector) (b .ask) (b .capability) (b .payload))) (h .key) x
 
-  module _ (n : ℕ) (c : List ℕ) (r : Reached master 1 c) where
-    named : idOf c ≡ 1
-    named = R.whole master 1 low c r .named
-
+  module _ (n : ℕ) (c : List ℕ) (named : idOf c ≡ 1) where
     pub finds : Finds s (asks n 1 c)
     finds = record {
       interface = (omega arith, omega (arith, h .holds .interfaces));
@@ -133,8 +140,8 @@ module _ (s : State) (last w : ℕ) (h : Panel s last w) where
       command = omega (arith, h .holds .commands);
     }
 
-    pub genuine : Genuine s (asks n 1 c)
-    genuine = rw (h .holds .secret, named) r
+    pub genuine : Reached master 1 c → Genuine s (asks n 1 c)
+    genuine r = rw (h .holds .secret, named) r
 
     pub word-there : wordOf (s .rights) 1 (idOf c) ≡ w
     word-there = rw named (h .holds .word)
@@ -179,11 +186,11 @@ module _ (s : State) (w : ℕ) (h : Panel s 0 w) (set : BitSet 2 w) (c : List �
   formed = well-formed 1 1 c (omega arith) (omega arith) r
 
   permits : Permits s filled
-  permits = (rw (word-there s 0 w h 1 c r) set, subst (λ (ws : List ℕ). (k : ℕ) → k < 4 → BitSet 2 (getD ws k 0)) (sym words) (twos first two))
+  permits = (rw (word-there s 0 w h 1 c (named-one c r)) set, subst (λ (ws : List ℕ). (k : ℕ) → k < 4 → BitSet 2 (getD ws k 0)) (sym words) (twos first two))
 
   accepts : answer s (command (packetOf s filled) room) .number ≡ 0
   accepts =
-      built-accepted s filled room (h .typed) formed (connects s 0 w h 1 1 c r (omega arith)) (finds s 0 w h 1 c r) permits (genuine s 0 w h 1 c r) .0
+      built-accepted s filled room (h .typed) formed (connects s 0 w h 1 1 c (omega arith)) (finds s 0 w h 1 c (named-one c r)) permits (genuine s 0 w h 1 c (named-one c r) r) .0
 
   after-it : Panel (next s (command (packetOf s filled) room)) 1 w
   after-it =
@@ -199,25 +206,25 @@ module _ (s : State) (w : ℕ) (h : Panel s 0 w) (set : BitSet 2 w) (c : List �
       }
 
   pub fills-accepted : answer s (sends (asks 1 1 c)) .number ≡ 0
-  fills-accepted = under-key s 0 w h 1 1 c r (λ p. answer s (command p room) .number ≡ 0) accepts
+  fills-accepted = under-key s 0 w h 1 1 c (λ p. answer s (command p room) .number ≡ 0) accepts
 
   pub fills-leaves : Panel (next s (sends (asks 1 1 c))) 1 w
-  fills-leaves = under-key s 0 w h 1 1 c r (λ p. Panel (next s (command p room)) 1 w) after-it
+  fills-leaves = under-key s 0 w h 1 1 c (λ p. Panel (next s (command p room)) 1 w) after-it
 
-module _ (s : State) (w : ℕ) (h : Panel s 1 w) where
+module _ (s : State) (last w : ℕ) (h : Panel s last w) (l : last < 2) where
   pub strays-refused : answer s strays .number ≡ 14
   strays-refused =
-      under-key s 1 w h 2 9 narrower narrower-reached (λ p. answer s (command p room) .number ≡ 14)
+      under-key s last w h 2 9 narrower (λ p. answer s (command p room) .number ≡ 14)
       (built-14 s (asks 2 9 narrower) room (h .typed) (well-formed 2 9 narrower (omega arith) (omega arith) narrower-reached)
-      (connects s 1 w h 2 9 narrower narrower-reached (omega arith)) (λ n. omega (arith, h .holds .interfaces)))
+      (connects s last w h 2 9 narrower l) (λ n. omega (arith, h .holds .interfaces)))
 
   -- where the present word lacks the bit
   pub again-refused : ¬ BitSet 2 w → answer s fillsAgain .number ≡ 18
   again-refused d =
-      under-key s 1 w h 2 1 narrower narrower-reached (λ p. answer s (command p room) .number ≡ 18)
+      under-key s last w h 2 1 narrower (λ p. answer s (command p room) .number ≡ 18)
       (built-18 s (asks 2 1 narrower) room (h .typed) (well-formed 2 1 narrower (omega arith) (omega arith) narrower-reached)
-      (connects s 1 w h 2 1 narrower narrower-reached (omega arith)) (finds s 1 w h 2 narrower narrower-reached)
-      (λ q. d (rw (word-there s 1 w h 2 narrower narrower-reached) at (q .0))))
+      (connects s last w h 2 1 narrower l) (finds s last w h 2 narrower (named-one narrower narrower-reached))
+      (λ q. d (rw (word-there s last w h 2 narrower (named-one narrower narrower-reached)) at (q .0))))
 
 module _ (s : State) (last : ℕ) (h : Panel s last 15) where
   pub takes-accepted : answer s takes .number ≡ 0
@@ -252,5 +259,5 @@ module _ (s : State) (last : ℕ) (h : Panel s last 15) where
 module _ (s : State) (last w : ℕ) (h : Panel s last w) (n i : ℕ) (l : n < 128) (m : i < 65536) (c : List ℕ) (r : Reached master 1 c) where
   pub names : (theFiller i ≡ true) ⊎ (¬ Names i (s .rights .interfaces)) → Named thePanel theFiller s (sends (asks n i c))
   names e =
-      under-key s last w h n i c r (λ p. Named thePanel theFiller s (command p room))
+      under-key s last w h n i c (λ p. Named thePanel theFiller s (command p room))
       (λ q o. rw (built-interface s (asks n i c) (well-formed n i c l m r)) e)

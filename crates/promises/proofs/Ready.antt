@@ -22,7 +22,7 @@ use Rattle.promises.specs.Rules.{Hold, Gives, some}
 use Rattle.promises.specs.Facts.{textIn, Authentic, commandFacts}
 use Rattle.promises.specs.Packets.{keyOf, asked}
 use Rattle.promises.specs.Ready.{Parts, packetOf, WellFormed, Connects, Finds, Permits, Genuine}
-use Rattle.promises.specs.Places.{interfaceSaid, numberSaid, entrySaid, commandSaid, wordsSaid, recordAt, wordOf}
+use Rattle.promises.specs.Places.{interfaceSaid, numberSaid, entrySaid, secretSaid, commandSaid, wordsSaid, recordAt, wordOf}
 use Rattle.promises.specs.Stands.{Names, Permitted}
 use Rattle.promises.specs.Typed.{Typed}
 use Rattle.promises.proofs.Built.{packet-long, built-text, built-tagged, asked-long, asked-order, asked-payload}
@@ -223,12 +223,17 @@ module _ (s : State) (b : Parts) (w : WellFormed b) where
           (λ h. d (permitted-by (said .command) word-said (said .words)
           (subst (λ x. Permitted (commandSaid x) (wordOf (s .rights) (interfaceSaid x) (entrySaid x)) (wordsSaid x)) text-back h))) given
 
+      -- all but the secret
+      upto18 : Permits s b → Hold (some 0 19 (commandFacts s p (length room)))
+      upto18 h =
+          hold-append (some 0 9 (commandFacts s p (length room)) ++ textFacts 9 9 s p (textIn s p)) (textFacts 18 1 s p (textIn s p)) upto17
+          (subst (λ x. Hold (textFacts 18 1 s p x)) (sym text-back) (permits-hold h))
+
       all-right : Permits s b → Genuine s b → answer s (command p room) .number ≡ 0
       all-right h g =
           hold-zero (commandFacts s p (length room)) _
-          (hold-append (some 0 9 (commandFacts s p (length room)) ++ textFacts 9 9 s p (textIn s p)) (textFacts 18 2 s p (textIn s p)) upto17
-          (subst (λ x. Hold (textFacts 18 2 s p x)) (sym text-back)
-          (hold-append (textFacts 18 1 s p t) (textFacts 19 1 s p t) (permits-hold h) (genuine-holds g)))) given
+          (hold-append (some 0 19 (commandFacts s p (length room))) (textFacts 19 1 s p (textIn s p)) (upto18 h)
+          (subst (λ x. Hold (textFacts 19 1 s p x)) (sym text-back) (genuine-holds g))) given
 
 -- ---- what a built packet says, wherever it is heard
 
@@ -245,6 +250,15 @@ module _ (s : State) (b : Parts) (w : WellFormed b) where
   pub built-number : numberSaid (textIn s (packetOf s b)) ≡ b .ask .sequence
   built-number = ap numberSaid (text-back s b w) ∙ said s b w .sequence
 
+  pub built-entry : entrySaid (textIn s (packetOf s b)) ≡ idOf (b .capability)
+  built-entry = ap entrySaid (text-back s b w) ∙ said s b w .entry
+
+  pub built-command : commandSaid (textIn s (packetOf s b)) ≡ b .ask .command
+  built-command = ap commandSaid (text-back s b w) ∙ said s b w .command
+
+  pub built-secret : secretSaid (textIn s (packetOf s b)) ≡ secretOf (b .capability)
+  built-secret = ap secretSaid (text-back s b w) ∙ said s b w .secret
+
   pub built-words : wordsSaid (textIn s (packetOf s b)) ≡ fourAt (b .capability) 2
   built-words = ap wordsSaid (text-back s b w) ∙ said s b w .words
 
@@ -255,6 +269,11 @@ built-14 s b room typed w c d = no-interface s b w room typed c d
 
 pub built-18 : Built18
 built-18 s b room typed w c f d = no-permission s b w room typed c f d
+
+-- all facts but the secret's
+pub built-upto18 : (s : State) (b : Parts) (room : List ℕ) → Typed s → WellFormed b → Connects s b (length room) → Finds s b → Permits s b
+    → Hold (some 0 19 (commandFacts s (packetOf s b) (length room)))
+built-upto18 s b room typed w c f h = upto18 s b w room typed c f h
 
 pub built-accepted : BuiltAccepted
 built-accepted s b room typed w c f h g =

@@ -9,10 +9,14 @@ use lib.Dec.{eqb}
 use lib.ListN.{replicate}
 use Rattle.octets.specs.Little.{octets}
 use Rattle.aes.specs.Cipher.{cipher}
+use Rattle.capability.specs.Bytes.{secretOf, capability}
 use Rattle.capability.specs.Calls.{issued, narrowing}
+use Rattle.capability.specs.Chain.{allOnes}
+use Rattle.state.specs.declared.State.{State}
 use Rattle.client.specs.Seal.{commandBytes}
 use Rattle.client.specs.declared.seal.Ask.{Ask}
 use Rattle.promises.specs.Ready.{Parts}
+use Rattle.promises.specs.Series.{after}
 use Rattle.promises.specs.Step.{Call, request, proof, command, reply, close, revoke}
 use Rattle.book.specs.States.{loaded}
 use Rattle.promises.specs.Books.{interfaceIn, InBook, AlikeBooks}
@@ -120,9 +124,23 @@ strays = sends (asks 2 9 narrower)
 abbrev pub fillsAgain : Call
 fillsAgain = sends (asks 2 1 narrower)
 
+-- the filler's by the capability as it was issued; and by one that claims a second narrowing, by 6, with the secret of the first alone
+abbrev pub fillsWhole : Call
+fillsWhole = sends (asks 1 1 whole)
+
+abbrev pub claimed : List ℕ
+claimed = capability 1 (12 ∷ 6 ∷ allOnes ∷ allOnes ∷ []) (secretOf narrower)
+
+abbrev pub claims : Call
+claims = sends (asks 1 1 claimed)
+
 -- command 2 of the filler is taken from its entry
 abbrev pub takes : Call
 takes = revoke 1 1 11
+
+-- the north dairy with the panel's connection open
+abbrev pub plant : State
+plant = after (loaded north .state) (hello ∷ proven ∷ [])
 
 -- ---- two days, with others' calls in between
 
