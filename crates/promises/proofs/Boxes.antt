@@ -186,8 +186,12 @@ said-secret = built-secret plant (asks 1 1 claimed) claimed-formed ∙ claimed-s
 -- the right secret of what the text names, for words ws
 right-secret : (ws : List ℕ) → rightSecret (masterOf (plant .rights) (interfaceSaid t)) (entrySaid t) ws ≡ rightSecret master 1 ws
 right-secret ws =
-    rw (built-interface plant (asks 1 1 claimed) claimed-formed, built-entry plant (asks 1 1 claimed) claimed-formed, claimed-id,
-    connected .holds .secret)
+    rw (
+      built-interface plant (asks 1 1 claimed) claimed-formed,
+      built-entry plant (asks 1 1 claimed) claimed-formed,
+      claimed-id,
+      connected .holds .secret,
+    )
 
 -- ours refuses it by 19
 claims-nineteen : answer plant (command p room) .number ≡ 19

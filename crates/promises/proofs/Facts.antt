@@ -91,22 +91,36 @@ module _ (s : State) (p : List ℕ) where
     holds = ltb-true (o .last) n (rw (o .phase) at f);
   }
 
--- ---- the open part and the connection
+  -- ---- the open part and the connection
 
   outer-gives : (room : ℕ) → Gives (some 0 8 (commandFacts s p room)) (outer (see (s .rights) (s .records) (numberAt p 0 2)) p room)
   unfolding outer see number
   outer-gives room =
       let facts = commandFacts s p room in
-      row (some 1 7 facts) 39 _ _ (λ h. rw (of-sound (s .rights) h)) λ t39. (sound-facts (s .rights) (not-false _ t39),
-      row (some 2 6 facts) 1 _ _ (λ h. le-ltb (length p) 96 h) λ t1. let long = ltb-false (length p) 96 t1 in (long,
-      row (some 3 5 facts) 2 _ _ (λ h. le-ltb 16480 (length p) h) λ t2. (ltb-false 16480 (length p) t2,
-      row (some 4 4 facts) 3 _ _ (λ h. rw h) λ t3. (zeros-at p 2 2 (omega arith) t3,
-      row (some 5 3 facts) 4 _ _ (λ h. named-such _ _ h) λ t4. (such (numberAt p 0 2) (s .rights .hosts) t4,
-      rw (place-there (numberAt p 0 2) (s .rights .hosts) 32 t4) (
-      row (some 6 2 facts) 5 _ _ (λ h. lt-leb 128 (numberAt p 4 1) (rw (number-byte p 4 (omega arith)) h))
-      λ t5. (rw (number-byte p 4 (omega arith)) at (leb-false 128 (numberAt p 4 1) t5),
-      row (some 7 1 facts) 6 _ _ (λ h. rw (h .phase)) λ t6. (opened (not-false _ t6),
-      row (some 8 0 facts) 7 _ _ (λ h. le-ltb room (length p - 96) (omega arith)) λ t7. let fits = ltb-false room (length p - 96) t7 in (omega arith, refl)))))))))
+      row (some 1 7 facts) 39 _ _ (λ h. rw (of-sound (s .rights) h)) λ t39. (
+        sound-facts (s .rights) (not-false _ t39),
+        row (some 2 6 facts) 1 _ _ (λ h. le-ltb (length p) 96 h) λ t1. let long = ltb-false (length p) 96 t1 in (
+          long,
+          row (some 3 5 facts) 2 _ _ (λ h. le-ltb 16480 (length p) h) λ t2. (
+            ltb-false 16480 (length p) t2,
+            row (some 4 4 facts) 3 _ _ (λ h. rw h) λ t3. (
+              zeros-at p 2 2 (omega arith) t3,
+              row (some 5 3 facts) 4 _ _ (λ h. named-such _ _ h) λ t4. (
+                such (numberAt p 0 2) (s .rights .hosts) t4,
+                rw (place-there (numberAt p 0 2) (s .rights .hosts) 32 t4) (
+                    row (some 6 2 facts) 5 _ _ (λ h. lt-leb 128 (numberAt p 4 1) (rw (number-byte p 4 (omega arith)) h))
+                    λ t5. (
+                      rw (number-byte p 4 (omega arith)) at (leb-false 128 (numberAt p 4 1) t5),
+                      row (some 7 1 facts) 6 _ _ (λ h. rw (h .phase)) λ t6. (
+                        opened (not-false _ t6),
+                        row (some 8 0 facts) 7 _ _ (λ h. le-ltb room (length p - 96) (omega arith)) λ t7. let fits = ltb-false room (length p - 96) t7 in (omega arith, refl),
+                      ),
+                    )),
+              ),
+            ),
+          ),
+        ),
+      )
 
 -- ---- the tag and the text
 
@@ -166,12 +180,22 @@ module _ (s : State) (p t : List ℕ) (long : 64 ≤ length t) (o : OpenWith s p
   inner-gives : Gives (textFacts 9 6 s p t) (inner (viewed s p) (numberAt p 0 2) (length p - 96) (orderOf t))
   unfolding inner orderOf number
   inner-gives =
-      row (textFacts 10 5 s p t) 9 _ _ (λ h. rw (eq-eqb _ _ h)) λ t9. (eqb-true _ _ (not-false _ t9),
-      row (textFacts 11 4 s p t) 10 _ _ (λ h. rw h) λ t10. (zeros-at t 13 3 (omega arith) t10,
-      row (textFacts 12 3 s p t) 11 _ _ (λ h. rw (eq-eqb _ _ h)) λ t11. (eqb-true _ _ (not-false _ t11),
-      row (textFacts 13 2 s p t) 12 _ _ (λ h. rw (h .phase, lt-ltb _ _ (h .holds))) λ t12. (newer s p _ o (not-false _ t12),
-      row (textFacts 14 1 s p t) 13 _ _ (λ h. or-zero _ _ h) λ t13. (zero-or _ _ t13,
-      row (textFacts 15 0 s p t) 14 _ _ (λ h. named-such _ _ h) λ t14. (such _ (s .rights .interfaces) t14, refl))))))
+      row (textFacts 10 5 s p t) 9 _ _ (λ h. rw (eq-eqb _ _ h)) λ t9. (
+        eqb-true _ _ (not-false _ t9),
+        row (textFacts 11 4 s p t) 10 _ _ (λ h. rw h) λ t10. (
+          zeros-at t 13 3 (omega arith) t10,
+          row (textFacts 12 3 s p t) 11 _ _ (λ h. rw (eq-eqb _ _ h)) λ t11. (
+            eqb-true _ _ (not-false _ t11),
+            row (textFacts 13 2 s p t) 12 _ _ (λ h. rw (h .phase, lt-ltb _ _ (h .holds))) λ t12. (
+              newer s p _ o (not-false _ t12),
+              row (textFacts 14 1 s p t) 13 _ _ (λ h. or-zero _ _ h) λ t13. (
+                zero-or _ _ t13,
+                row (textFacts 15 0 s p t) 14 _ _ (λ h. named-such _ _ h) λ t14. (such _ (s .rights .interfaces) t14, refl),
+              ),
+            ),
+          ),
+        ),
+      )
 
 module _ (r : Rights) (i e : ℕ) where
   abbrev right : Right
@@ -205,13 +229,19 @@ module _ (s : State) (p t : List ℕ) (long : 64 ≤ length t) (sound : soundRig
   unfolding rightful orderOf permitted allows allAllow wordAt
   right-gives =
       rw (entries-there (s .rights) i e there) (
-      row (textFacts 16 3 s p t) 15 _ _ (λ h. named-such _ _ h) λ t15. (such _ _ t15,
-      rw (right-there (s .rights) i e sound secrets there t15) (
-      row (textFacts 17 2 s p t) 16 _ _ (λ h. or-zero _ _ h) λ t16. (zero-or _ _ t16,
-      row (textFacts 18 1 s p t) 17 _ _ (λ h. lt-leb _ _ h) λ t17. (leb-false _ _ t17,
-      row (textFacts 19 0 s p t) 18 _ _ (λ h. rw (and-both _ _ (eq-eqb _ 1 (h .0)) (set-bits _ (wordsSaid t) (h .1))))
-      λ t18. let bits = bits-set (numberAt t 12 1) (right (s .rights) i e .word ∷ wordsSaid t) (not-false _ t18) in
-      ((bits 0 (omega arith), λ k l. bits (suc k) (omega arith)), refl))))))
+      row (textFacts 16 3 s p t) 15 _ _ (λ h. named-such _ _ h) λ t15. (
+        such _ _ t15,
+        rw (right-there (s .rights) i e sound secrets there t15) (
+            row (textFacts 17 2 s p t) 16 _ _ (λ h. or-zero _ _ h) λ t16. (
+              zero-or _ _ t16,
+              row (textFacts 18 1 s p t) 17 _ _ (λ h. lt-leb _ _ h) λ t17. (
+                leb-false _ _ t17,
+                row (textFacts 19 0 s p t) 18 _ _ (λ h. rw (and-both _ _ (eq-eqb _ 1 (h .0)) (set-bits _ (wordsSaid t) (h .1))))
+                    λ t18. let bits = bits-set (numberAt t 12 1) (right (s .rights) i e .word ∷ wordsSaid t) (not-false _ t18) in
+                    ((bits 0 (omega arith), λ k l. bits (suc k) (omega arith)), refl),
+              ),
+            )),
+      ))
 
   secret-gives : noSuch e (getD (s .rights .entries) (i - 1) 0) ≡ false
       → Gives (textFacts 19 1 s p t) (genuine (named (s .rights) (orderOf t)) (orderOf t))

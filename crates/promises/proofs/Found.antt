@@ -63,7 +63,7 @@ module _ (r : Rights) (names name : List ℕ) where
   none-from i zero e j l u = absurd (omega arith)
   none-from i (suc k) e j l u = none-step i k (same (nameAt r names i) name) refl (none-from (i + 1) k) e j l u
 
--- ---- among all hosts
+  -- ---- among all hosts
 
   -- the host found has the name, and no lower one has it
   pub found-names : (m : ℕ) → found r names name ≡ suc m

@@ -47,8 +47,12 @@ low-narrowed w (x ∷ xs) l h = either (eqb x allOnes) (low-narrowed w xs l (λ 
 -- four words of a capability read back
 four-of : (id : ℕ) (ws s : List ℕ) → length ws ≡ 4 → Low ws → fourAt (capability id ws s) 2 ≡ ws
 four-of id ws s e h =
-    rw (word-at id ws s 0 (omega arith) (h 0), word-at id ws s 1 (omega arith) (h 1), word-at id ws s 2 (omega arith) (h 2),
-    word-at id ws s 3 (omega arith) (h 3)) (sym (four-written ws e))
+    rw (
+      word-at id ws s 0 (omega arith) (h 0),
+      word-at id ws s 1 (omega arith) (h 1),
+      word-at id ws s 2 (omega arith) (h 2),
+      word-at id ws s 3 (omega arith) (h 3),
+    ) (sym (four-written ws e))
 
 pub record Whole (master : List ℕ) (id : ℕ) (c : List ℕ) : Type 0 where
   pub named : idOf c ≡ id

@@ -282,5 +282,5 @@ built-accepted s b room typed w c f h g =
       e,
       left .order ∙ rw (text-back s b w) (says s b w),
       left .payload
-      ∙ rw (text-back s b w, asked-payload (b .capability) (b .ask) (b .payload) (w .capability) (w .bytes) (w .payload) (w .fits)),
+          ∙ rw (text-back s b w, asked-payload (b .capability) (b .ask) (b .payload) (w .capability) (w .bytes) (w .payload) (w .fits)),
     )
