@@ -8,7 +8,7 @@ use Rattle.view.specs.View.{see}
 use Rattle.view.proofs.CountedLaws.{place-there}
 use Rattle.promises.specs.Step.{Call, next}
 use Rattle.promises.specs.Told.{Machine}
-use Rattle.promises.specs.Alike.{Sound, Host, SameHosts, Alike}
+use Rattle.promises.specs.Alike.{SoundTyped, Host, SameHosts, Alike}
 use Rattle.promises.proofs.Hosts.{hosts-refl, hosts-sym, hosts-trans}
 use Rattle.promises.proofs.Contents.{interface-refl, interface-sym, interface-trans}
 use Rattle.promises.proofs.Own.{sized-kept}
@@ -16,7 +16,7 @@ use Rattle.promises.proofs.Typed.{words-kept}
 use Rattle.promises.proofs.Sound.{sound-kept}
 use Rattle.promises.proofs.TestLaws.{named-such}
 
-pub sound-still : (s : State) (c : Call) → Sound s → Sound (next s c)
+pub sound-still : (s : State) (c : Call) → SoundTyped s → SoundTyped (next s c)
 sound-still s c h = record {
   sound = sound-kept s c (h .sound);
   words = words-kept s c (h .words);
@@ -31,7 +31,7 @@ module _ {A : Machine} where
   }
 
   module _ {chosen : ℕ → Bool} where
-    pub alike-refl : {s : State} → Sound s → Host A s → Alike A chosen s s
+    pub alike-refl : {s : State} → SoundTyped s → Host A s → Alike A chosen s s
     alike-refl h k = record {
       first = h;
       second = h;

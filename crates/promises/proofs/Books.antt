@@ -23,7 +23,7 @@ use Rattle.promises.specs.Places.{recordAt}
 use Rattle.promises.specs.Stands.{Names}
 use Rattle.promises.specs.Typed.{Typed}
 use Rattle.promises.specs.Told.{Machine, mine, keep, keepIf, heard, AllNamed}
-use Rattle.promises.specs.Alike.{Sound, Host, SameHosts, SameInterface, Alike}
+use Rattle.promises.specs.Alike.{SoundTyped, Host, SameHosts, SameInterface, Alike}
 use Rattle.promises.specs.Books.{interfaceIn, InBook, SameContents, AlikeBooks}
 use Rattle.promises.proofs.Alone.{noninterference}
 use Rattle.promises.proofs.Ends.{ends-alike}
@@ -55,7 +55,7 @@ LoadsEnd =
 pub typed-loaded : (b : List ℕ) → Typed (loaded b .state)
 typed-loaded b = record { words = load-words b; secrets = load-secrets b; records = load-sized b }
 
-sound-loaded : (b : List ℕ) → Sound (loaded b .state)
+sound-loaded : (b : List ℕ) → SoundTyped (loaded b .state)
 sound-loaded b = record { sound = load-sound b; words = load-words b; records = load-sized b }
 
 -- ---- a good book's state holds what the book says

@@ -30,7 +30,7 @@ use Rattle.promises.specs.Dairies.{master, room, asks, whole, narrower, 
 use Rattle.promises.specs.Facts.{textIn, commandFacts}
 use Rattle.promises.specs.Places.{interfaceSaid, entrySaid, commandSaid, wordsSaid, secretSaid, recordAt, masterOf}
 use Rattle.promises.specs.Ready.{packetOf, WellFormed}
-use Rattle.promises.specs.Rules.{Hold, some}
+use Rattle.promises.specs.Rules.{Hold, slice}
 use Rattle.promises.specs.Stands.{BitSet}
 use Rattle.promises.specs.Step.{Call, command, Said, answer, next}
 use Rattle.promises.proofs.Blocks.{blocks-command}
@@ -171,7 +171,7 @@ p = packetOf plant (asks 1 1 claimed)
 abbrev t : List ℕ
 t = textIn plant p
 
-upto18 : Hold (some 0 19 (commandFacts plant p 48))
+upto18 : Hold (slice 0 19 (commandFacts plant p 48))
 upto18 =
     built-upto18 plant (asks 1 1 claimed) room (connected .typed) claimed-formed (connects plant 0 15 connected 1 1 claimed (omega arith))
     (finds plant 0 15 connected 1 claimed claimed-id)
@@ -196,7 +196,7 @@ right-secret ws =
 -- ours refuses it by 19
 claims-nineteen : answer plant (command p room) .number ≡ 19
 claims-nineteen =
-    fails (some 0 19 (commandFacts plant p 48)) 19 [] _ upto18
+    fails (slice 0 19 (commandFacts plant p 48)) 19 [] _ upto18
     (λ e. let same = sym said-secret ∙ e ∙ right-secret (wordsSaid t) ∙ ap (rightSecret master 1) said-words ∙ chained .1 in
     let byte : _≡_ {A = ℕ} 136 166 = ap (λ (l : List ℕ). getD l 0 0) same in
     absurd (omega arith))
@@ -282,7 +282,7 @@ not-by-first-word b h = not-chaining-first b (λ s q r stands bits. h s q r stan
 
 -- the rule's count for the packet q of 99 bytes, which ours accepts with the count k
 rule-count : (b : Box) (h : InventsCount b) (q : List ℕ) (k : ℕ) → length q ≡ 99 → answer plant (command q room) .number ≡ 0
-    → answer plant (command q room) .blocks ≡ k → b .says plant (command q room) ≡ answer plant (command q room) → h .rule 0 99 ≡ k
+    → answer plant (command q room) .blocks ≡ k → b .says plant (command q room) ≡ answer plant (command q room) → h .rule plant room 0 99 ≡ k
 rule-count b h q k long zero-now blocks e =
     let made = h .count plant q room in
     sym (rw (e, zero-now, blocks, long) at made)

@@ -1,5 +1,5 @@
--- The two dairies of specs/Dairies. Their books are good, and alike but for the mixer, by computation; then what the panel's calls are answered, call by
--- call, in any state that holds what the book says of the panel and the filler.
+-- The two dairies of specs/Dairies. Their books are good, and alike but for the mixer, by computation; then what the state loaded from the north book
+-- holds of the panel and the filler.
 use mathlib.Core.Path.{_≡_, refl, sym, ap, subst, _∙_}
 use mathlib.Core.Logic.{_≢_, inl, inr}
 use mathlib.Core.Bool.{Bool, true, false}
@@ -21,9 +21,15 @@ use Rattle.book.specs.Contents.{Entry, contentsOf, hostCount, hostsFrom, interf
 use Rattle.book.specs.States.{fill, laid, rightsOf, namesOf, stateOf, loadedWith, loaded}
 use Rattle.state.specs.declared.State.{State}
 use Rattle.state.specs.declared.Rights.{Rights}
-use Rattle.gateway.specs.Request.{nameAt, found, foundFrom}
+use Rattle.state.specs.Sound.{soundRights, allWithin, allInterfaces, interfaceSound, allWords, allBelow}
+use Rattle.view.specs.Counted.{noSuch, place}
+use Rattle.view.specs.Right.{rightOf}
+use Rattle.gateway.specs.Request.{nameAt, found, foundFrom, formRefusal, requestRefusal, requesting}
+use Rattle.gateway.specs.Revoke.{revokeRefusal, revoking}
 use Rattle.promises.specs.Books.{hostIn, interfaceIn, InBook, SameContents, AlikeBooks}
-use Rattle.promises.specs.Dairies.{dairy, north, south, thePanel, theFiller, master}
+use Rattle.promises.specs.Dairies.{dairy, north, south, thePanel, theFiller, master, hello, proven, fills, scaleAsks, mixerLoses}
+use Rattle.promises.specs.Series.{after}
+use Rattle.promises.specs.Step.{answer, next}
 use Rattle.promises.specs.Places.{groupOf, commandsOf, entriesOf, masterOf, ownerOf, wordOf}
 
 -- ---- the books
@@ -93,3 +99,21 @@ unfolding
     sizeFits first each fitting letter innerSpace same contentsOf hostCount hostsFrom interfacesFrom entriesFrom dairy octets number format rows
     total kind id start size hostsBefore expected group secret commands entries owner word lead nameStart name
 found-north = refl
+
+-- ---- the others: the scale's request, and a revocation on the mixer, for which no call before them has changed names or rights
+
+pub scale-asks : answer (after (loaded north .state) (hello ∷ [])) scaleAsks .number ≡ 0
+unfolding
+    answer next after requesting requestRefusal formRefusal found foundFrom nameAt namesOf soundRights allWithin allInterfaces interfaceSound allWords
+    allBelow loaded loadedWith stateOf rightsOf fill laid faultOf bodyChecks nameChecks interfaceChecks usedBelow kindFits ordinal sizeFits first each
+    fitting letter innerSpace same contentsOf hostCount hostsFrom interfacesFrom entriesFrom dairy octets number format rows total kind id start size
+    hostsBefore expected group secret commands entries owner word lead nameStart name
+scale-asks = refl
+
+pub mixer-loses : answer (after (loaded north .state) (hello ∷ scaleAsks ∷ proven ∷ fills ∷ [])) mixerLoses .number ≡ 0
+unfolding
+    answer next after revoking revokeRefusal noSuch place rightOf soundRights allWithin allInterfaces interfaceSound allWords allBelow loaded loadedWith
+    stateOf rightsOf fill laid faultOf bodyChecks nameChecks interfaceChecks usedBelow kindFits ordinal sizeFits first each fitting letter innerSpace
+    same contentsOf hostCount hostsFrom interfacesFrom entriesFrom dairy octets number format rows total kind id start size hostsBefore expected
+    group secret commands entries owner word lead nameStart name
+mixer-loses = refl

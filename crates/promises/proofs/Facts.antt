@@ -45,7 +45,7 @@ use Rattle.command.specs.Heard.{heard}
 use Rattle.command.proofs.HeardLaws.{tagRight}
 use Rattle.gateway.specs.Command.{commandHeard}
 use Rattle.promises.specs.Step.{command, answer}
-use Rattle.promises.specs.Rules.{Rule, Hold, Gives, some}
+use Rattle.promises.specs.Rules.{Rule, Hold, Gives, slice}
 use Rattle.promises.specs.Facts.{textIn, Authentic, OpenWith, factsOf, commandFacts, Opens}
 use Rattle.promises.specs.Places.{recordAt, wordsSaid}
 use Rattle.promises.specs.Stands.{Names}
@@ -61,7 +61,7 @@ CommandNumber =
 
 -- of a text t
 abbrev pub textFacts : ℕ → ℕ → State → List ℕ → List ℕ → List Rule
-textFacts k n s p t = some k n (factsOf s p 0 t (numberAt t 6 2) (numberAt t 8 2) (numberAt t 12 1) (wordsSaid t))
+textFacts k n s p t = slice k n (factsOf s p 0 t (numberAt t 6 2) (numberAt t 8 2) (numberAt t 12 1) (wordsSaid t))
 
 -- ---- what is seen of the client that the open part names
 
@@ -93,27 +93,27 @@ module _ (s : State) (p : List ℕ) where
 
   -- ---- the open part and the connection
 
-  outer-gives : (room : ℕ) → Gives (some 0 8 (commandFacts s p room)) (outer (see (s .rights) (s .records) (numberAt p 0 2)) p room)
+  outer-gives : (room : ℕ) → Gives (slice 0 8 (commandFacts s p room)) (outer (see (s .rights) (s .records) (numberAt p 0 2)) p room)
   unfolding outer see number
   outer-gives room =
       let facts = commandFacts s p room in
-      row (some 1 7 facts) 39 _ _ (λ h. rw (of-sound (s .rights) h)) λ t39. (
+      row (slice 1 7 facts) 39 _ _ (λ h. rw (of-sound (s .rights) h)) λ t39. (
         sound-facts (s .rights) (not-false _ t39),
-        row (some 2 6 facts) 1 _ _ (λ h. le-ltb (length p) 96 h) λ t1. let long = ltb-false (length p) 96 t1 in (
+        row (slice 2 6 facts) 1 _ _ (λ h. le-ltb (length p) 96 h) λ t1. let long = ltb-false (length p) 96 t1 in (
           long,
-          row (some 3 5 facts) 2 _ _ (λ h. le-ltb 16480 (length p) h) λ t2. (
+          row (slice 3 5 facts) 2 _ _ (λ h. le-ltb 16480 (length p) h) λ t2. (
             ltb-false 16480 (length p) t2,
-            row (some 4 4 facts) 3 _ _ (λ h. rw h) λ t3. (
+            row (slice 4 4 facts) 3 _ _ (λ h. rw h) λ t3. (
               zeros-at p 2 2 (omega arith) t3,
-              row (some 5 3 facts) 4 _ _ (λ h. named-such _ _ h) λ t4. (
+              row (slice 5 3 facts) 4 _ _ (λ h. named-such _ _ h) λ t4. (
                 such (numberAt p 0 2) (s .rights .hosts) t4,
                 rw (place-there (numberAt p 0 2) (s .rights .hosts) 32 t4) (
-                    row (some 6 2 facts) 5 _ _ (λ h. lt-leb 128 (numberAt p 4 1) (rw (number-byte p 4 (omega arith)) h))
+                    row (slice 6 2 facts) 5 _ _ (λ h. lt-leb 128 (numberAt p 4 1) (rw (number-byte p 4 (omega arith)) h))
                     λ t5. (
                       rw (number-byte p 4 (omega arith)) at (leb-false 128 (numberAt p 4 1) t5),
-                      row (some 7 1 facts) 6 _ _ (λ h. rw (h .phase)) λ t6. (
+                      row (slice 7 1 facts) 6 _ _ (λ h. rw (h .phase)) λ t6. (
                         opened (not-false _ t6),
-                        row (some 8 0 facts) 7 _ _ (λ h. le-ltb room (length p - 96) (omega arith)) λ t7. let fits = ltb-false room (length p - 96) t7 in (omega arith, refl),
+                        row (slice 8 0 facts) 7 _ _ (λ h. le-ltb room (length p - 96) (omega arith)) λ t7. let fits = ltb-false room (length p - 96) t7 in (omega arith, refl),
                       ),
                     )),
               ),
@@ -166,7 +166,7 @@ module _ (s : State) (p : List ℕ) (long : 96 ≤ length p) where
   pub text-long : 64 ≤ length (textIn s p)
   text-long = omega (arith, text-length ciph (cipher-length (recordAt s (numberAt p 0 2) .key)) (part p 4 12) (drop 32 p), length-drop 32 p)
 
-  pub tag-gives : Gives (some 8 1 (commandFacts s p 0)) (tagged ciph p)
+  pub tag-gives : Gives (slice 8 1 (commandFacts s p 0)) (tagged ciph p)
   unfolding tagged
   tag-gives =
       rw (filled-there 12 p 4 (omega arith), filled-there 16 p 16 (omega arith)) (
@@ -253,18 +253,18 @@ module _ (s : State) (p t : List ℕ) (long : 64 ≤ length t) (sound : soundRig
 -- ---- the whole
 
 module _ (s : State) (p : List ℕ) (room : ℕ) where
-  opening-gives : Gives (some 0 9 (commandFacts s p room)) (opening (see (s .rights) (s .records) (numberAt p 0 2)) p room)
+  opening-gives : Gives (slice 0 9 (commandFacts s p room)) (opening (see (s .rights) (s .records) (numberAt p 0 2)) p room)
   unfolding opening
   opening-gives =
-      stages (some 0 8 (commandFacts s p room)) (some 8 1 (commandFacts s p room)) _ _ refl (outer-gives s p room)
+      stages (slice 0 8 (commandFacts s p room)) (slice 8 1 (commandFacts s p room)) _ _ refl (outer-gives s p room)
       λ h. rw (seen s p (h .1 .1 .1 .1 .0)) (tag-gives s p (h .1 .0))
 
   -- a command opens just where the check gets past 8
   pub opens-zero : Opens s p room → opening (see (s .rights) (s .records) (numberAt p 0 2)) p room ≡ 0
-  opens-zero h = hold-zero (some 0 9 (commandFacts s p room)) _ h opening-gives
+  opens-zero h = hold-zero (slice 0 9 (commandFacts s p room)) _ h opening-gives
 
   pub zero-opens : opening (see (s .rights) (s .records) (numberAt p 0 2)) p room ≡ 0 → Opens s p room
-  zero-opens e = zero-hold (some 0 9 (commandFacts s p room)) refl (subst (Gives (some 0 9 (commandFacts s p room))) e opening-gives)
+  zero-opens e = zero-hold (slice 0 9 (commandFacts s p room)) refl (subst (Gives (slice 0 9 (commandFacts s p room))) e opening-gives)
 
   -- and then its text says what the check reads
   pub order-there : Opens s p room → order (ciphOf (see (s .rights) (s .records) (numberAt p 0 2))) p ≡ orderOf (textIn s p)
@@ -275,7 +275,7 @@ pub command-number : CommandNumber
 unfolding answer commandHeard heard commandRefusal weighed judged
 command-number s p room typed =
     let t : List ℕ = textIn s p in
-    stages (some 0 9 (commandFacts s p (length room))) (textFacts 9 11 s p t) _ _ refl (opening-gives s p (length room))
+    stages (slice 0 9 (commandFacts s p (length room))) (textFacts 9 11 s p t) _ _ refl (opening-gives s p (length room))
     λ h. let long = text-long s p (h .1 .0) in
     let sound = of-sound (s .rights) (h .0) in
     rw (order-there s p (length room) h, seen s p (h .1 .1 .1 .1 .0)) (

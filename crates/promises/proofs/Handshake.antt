@@ -70,7 +70,7 @@ module _ (s : State) (h : ℕ) (name p f c room other : List ℕ) (made : Handsh
   request-accepted = rw (form-passes, asked-host, isZero-false h (λ e. omega arith), le-ltb (length room) 32 (made .asked-room))
 
   asked-left : Leaves s asks
-  asked-left = accepted-leaves s asks (made .typed) request-accepted (λ e. omega (arith, asked-host))
+  asked-left = accepted-leaves s asks (made .typed) request-accepted tt
 
   -- the host waits, with challenge 2
   host-waits : recordAt (next s asks) h ≡ requested f
@@ -98,7 +98,7 @@ module _ (s : State) (h : ℕ) (name p f c room other : List ℕ) (made : Handsh
       (made .proved-room)
 
   proved-left : Leaves (next s asks) proves
-  proved-left = accepted-leaves (next s asks) proves (typed-kept s asks (made .typed)) proof-accepted (λ e. omega arith)
+  proved-left = accepted-leaves (next s asks) proves (typed-kept s asks (made .typed)) proof-accepted tt
 
   -- ---- both
 

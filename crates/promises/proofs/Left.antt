@@ -1,7 +1,7 @@
 -- "Each call leaves the record, bytes and block count that document 01 sets": the records and the words after an accepted call.
 use mathlib.Core.Path.{_≡_, refl, sym, ap, _∙_}
 use mathlib.Core.Logic.{_≢_}
-use mathlib.Core.Bool.{true, false, false≢true}
+use mathlib.Core.Bool.{true, false, false≢true, true≢false}
 use mathlib.Core.List.{List}
 use Prim.Native.Nat.{ℕ, _-_}
 use native.Mathlib.Omega.{arith}
@@ -30,21 +30,21 @@ use Rattle.gateway.proofs.CloseLaws.{ClosePassed, close-passed}
 use Rattle.gateway.proofs.ProofLaws.{ProofPassed, proof-passed}
 use Rattle.gateway.proofs.ReplyLaws.{Replies, replies}
 use Rattle.gateway.proofs.RevokeLaws.{revoke-passed}
-use Rattle.promises.specs.Left.{leaves, Leaves, Revokes}
+use Rattle.promises.specs.Left.{AboutHost, leaves, Leaves, Revokes}
 use Rattle.promises.specs.Places.{recordAt}
 use Rattle.promises.specs.Stands.{Names}
 use Rattle.promises.specs.Step.{Call, request, proof, command, reply, close, revoke, answer, withRecords, next}
 use Rattle.promises.specs.Subject.{subject}
 use Rattle.promises.specs.Typed.{Typed}
 use Rattle.promises.proofs.Found.{found-low, request-sound}
+use Rattle.promises.proofs.CallFacts.{known-found, accepted-exactly}
 use Rattle.promises.proofs.Own.{others-kept, own-stored}
 use Rattle.promises.proofs.Sound.{revocable}
 use Rattle.promises.proofs.Stands.{accepted-says}
 use Rattle.promises.proofs.TestLaws.{named-such}
 
--- a call about a host: any but a revocation
 abbrev pub AcceptedLeaves : Type 0
-AcceptedLeaves = (s : State) (c : Call) → Typed s → answer s c .number ≡ 0 → subject s c ≢ 0 → Leaves s c
+AcceptedLeaves = (s : State) (c : Call) → Typed s → answer s c .number ≡ 0 → AboutHost c → Leaves s c
 
 abbrev pub RevocationLeaves : Type 0
 RevocationLeaves = (s : State) (i e w : ℕ) → Typed s → answer s (revoke i e w) .number ≡ 0 → Revokes s i e w
@@ -147,8 +147,20 @@ records-alone s (revoke i e w) d = absurd (d refl)
 
 -- ---- the promises
 
+-- an accepted call about a host has one: 4 and 23 refuse the others
+has-host : (s : State) (c : Call) → Typed s → answer s c .number ≡ 0 → AboutHost c → subject s c ≢ 0
+has-host s (request p f room) typed e a z =
+    let known = accepted-exactly s (request p f room) typed .0 e .1 .1 .1 .1 .1 .0 in
+    true≢false (rw z at (known-found s (asked p) known))
+has-host s (proof h p room) typed e a z = omega (arith, accepted-exactly s (proof h p room) typed .0 e .1 .0)
+has-host s (command p room) typed e a z = omega (arith, accepted-exactly s (command p room) typed .0 e .1 .1 .1 .1 .0)
+has-host s (reply h n pay room) typed e a z = omega (arith, accepted-exactly s (reply h n pay room) typed .0 e .1 .0)
+has-host s (close h) typed e a z = omega (arith, accepted-exactly s (close h) typed .0 e .1 .0)
+has-host s (revoke i j w) typed e a z = absurd a
+
 pub accepted-leaves : AcceptedLeaves
-accepted-leaves s c typed e d =
+accepted-leaves s c typed e a =
+    let d = has-host s c typed e a in
     let alone = records-alone s c d in record {
       own = own s c typed e d;
       others = λ h l k. others-kept s c h l k (typed .records);

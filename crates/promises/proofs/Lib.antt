@@ -16,11 +16,13 @@ pub mod One
 pub mod SettledGround
 pub mod SettledBook
 pub mod SettledCalls
+pub mod Linked
 pub mod Hosts
 pub mod Own
 pub mod Lasting
 pub mod Typed
 pub mod Found
+pub mod CallFacts
 pub mod Left
 pub mod Handshake
 pub mod Revoked

@@ -15,7 +15,7 @@ use Rattle.grammar.specs.Checks.{headChecks, rowChecks, wordChecks, letterCheck
 use Rattle.grammar.proofs.GoodLaws.{good-none}
 use Rattle.book.specs.States.{loaded, loadedWith}
 use Rattle.promises.specs.Among.{Among, bookNumbers}
-use Rattle.promises.proofs.Numbers.{stands, none, row}
+use Rattle.promises.proofs.Numbers.{inList, none, row}
 
 abbrev pub NumbersLoad : Type 0
 NumbersLoad = (b : List ℕ) → Among bookNumbers (loaded b .number)
@@ -28,20 +28,20 @@ AcceptedAtZero = (b : List ℕ) → loaded b .number ≡ 0 → loaded b .offset 
 -- every check's number stands in the list, so the first fault's number is 0 or stands there
 abbrev within : List ℕ → List Check → Bool
 within ms [] = true
-within ms ((n at p when t) ∷ cs) = stands ms n && within ms cs
+within ms ((n at p when t) ∷ cs) = inList ms n && within ms cs
 
 first-among : (ms : List ℕ) (cs : List Check) → within ms cs ≡ true → Among ms (first cs .number)
 unfolding first
 first-among ms [] h = none ms
-first-among ms ((n at p when false) ∷ cs) h = first-among ms cs (and-right (stands ms n) _ h)
-first-among ms ((zero at p when true) ∷ cs) h = first-among ms cs (and-right (stands ms 0) _ h)
-first-among ms ((suc n at p when true) ∷ cs) h = row ms true (suc n) 0 (and-left (stands ms (suc n)) _ h) (none ms)
+first-among ms ((n at p when false) ∷ cs) h = first-among ms cs (and-right (inList ms n) _ h)
+first-among ms ((zero at p when true) ∷ cs) h = first-among ms cs (and-right (inList ms 0) _ h)
+first-among ms ((suc n at p when true) ∷ cs) h = row ms true (suc n) 0 (and-left (inList ms (suc n)) _ h) (none ms)
 
 module _ (ms : List ℕ) where
   within-append : (xs ys : List Check) → within ms xs ≡ true → within ms ys ≡ true → within ms (xs ++ ys) ≡ true
   within-append [] ys h k = k
   within-append ((n at p when t) ∷ xs) ys h k =
-      rw (and-left (stands ms n) (within ms xs) h) (within-append xs ys (and-right (stands ms n) (within ms xs) h) k)
+      rw (and-left (inList ms n) (within ms xs) h) (within-append xs ys (and-right (inList ms n) (within ms xs) h) k)
 
   within-each : (F : ℕ → List Check) → ((i : ℕ) → within ms (F i) ≡ true) → (i m : ℕ) → within ms (each F i m) ≡ true
   unfolding each

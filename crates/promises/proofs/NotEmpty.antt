@@ -5,6 +5,7 @@ use mathlib.Core.Logic.{inl, inr}
 use mathlib.Core.List.{List, [], _∷_, map}
 use Prim.Native.Nat.{ℕ}
 use native.Mathlib.Omega.{arith}
+use lib.ListN.{length}
 use Rattle.octets.specs.Little.{number, octets}
 use Rattle.octets.specs.Same.{same}
 use Rattle.book.specs.States.{loaded}
@@ -20,7 +21,7 @@ use Rattle.promises.specs.Told.{mine, keep, Told, heard, AllNamed}
 use Rattle.promises.proofs.Alike.{alike-refl}
 use Rattle.promises.proofs.Alone.{named-whole, heard-alone}
 use Rattle.promises.proofs.Books.{alike-loads}
-use Rattle.promises.proofs.Dairies.{panel-there, mixers-apart, books-alike}
+use Rattle.promises.proofs.Dairies.{panel-there, mixers-apart, books-alike, scale-asks, mixer-loses}
 use Rattle.promises.proofs.Handshake.{request-accepted, proof-accepted}
 use Rattle.promises.proofs.Panel.{Panel, narrower-reached, narrower-words, well-made, connected, fills-accepted, fills-leaves, strays-refused}
 use Rattle.promises.proofs.Panel.{again-refused, takes-accepted, takes-leaves, names}
@@ -113,4 +114,7 @@ not-empty =
       numbers =
           ap numbersIn (heard-alone thePanel theFiller s0 northDay (a .first) (a .host) day-named ∙ ap (heard thePanel s0) (kept .0))
           ∙ alone-numbers;
+      days = λ e. let long : _≡_ {A = ℕ} 9 10 = ap length e in absurd (omega arith);
+      asked = scale-asks;
+      revoked = mixer-loses;
     }

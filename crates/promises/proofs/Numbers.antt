@@ -24,15 +24,15 @@ use Rattle.promises.specs.Step.{Call, request, proof, command, reply, cl
 use Rattle.promises.specs.Among.{Listed, Among, allowed}
 
 -- whether n stands in the list
-abbrev pub stands : List ℕ → ℕ → Bool
-stands [] n = false
-stands (m ∷ ms) n = eqb n m || stands ms n
+abbrev pub inList : List ℕ → ℕ → Bool
+inList [] n = false
+inList (m ∷ ms) n = eqb n m || inList ms n
 
 either : (a b : Bool) → (a || b) ≡ true → (a ≡ true) ⊎ (b ≡ true)
 either true b e = inl refl
 either false b e = inr e
 
-listed : (ms : List ℕ) (n : ℕ) → stands ms n ≡ true → Listed ms n
+listed : (ms : List ℕ) (n : ℕ) → inList ms n ≡ true → Listed ms n
 listed [] n e = absurd (false≢true e)
 listed (m ∷ ms) n e = ⊎-map (eqb-true n m) (listed ms n) (either (eqb n m) _ e)
 
@@ -40,7 +40,7 @@ listed (m ∷ ms) n e = ⊎-map (eqb-true n m) (listed ms n) (either (eqb n m) _
 pub none : (ms : List ℕ) → Among ms 0
 none ms = inl refl
 
-pub row : (ms : List ℕ) (t : Bool) (n m : ℕ) → stands ms n ≡ true → Among ms m → Among ms (pick t n m)
+pub row : (ms : List ℕ) (t : Bool) (n m : ℕ) → inList ms n ≡ true → Among ms m → Among ms (pick t n m)
 row ms true n m e h = inr (listed ms n e)
 row ms false n m e h = h
 

@@ -137,7 +137,6 @@ module _ (s : State) (last w : ℕ) (h : Panel s last w) where
       interface = (omega arith, omega (arith, h .holds .interfaces));
       entry = (omega (arith, named), omega (arith, named, h .holds .entries));
       owner = inr (rw named (h .holds .owner));
-      command = omega (arith, h .holds .commands);
     }
 
     pub genuine : Reached master 1 c → Genuine s (asks n 1 c)
@@ -195,7 +194,7 @@ module _ (s : State) (w : ℕ) (h : Panel s 0 w) (set : BitSet 2 w) (c : List �
   after-it : Panel (next s (command (packetOf s filled) room)) 1 w
   after-it =
       let client = built-client s filled formed in
-      let left = accepted-leaves s (command (packetOf s filled) room) (h .typed) accepts (λ e. omega (arith, client)) in
+      let left = accepted-leaves s (command (packetOf s filled) room) (h .typed) accepts tt in
       let own = rw client at (left .own) in record {
         typed = typed-kept s (command (packetOf s filled) room) (h .typed);
         sound = rw (left .rights) (h .sound);
@@ -224,6 +223,7 @@ module _ (s : State) (last w : ℕ) (h : Panel s last w) (l : last < 2) where
       under-key s last w h 2 1 narrower (λ p. answer s (command p room) .number ≡ 18)
       (built-18 s (asks 2 1 narrower) room (h .typed) (well-formed 2 1 narrower (omega arith) (omega arith) narrower-reached)
       (connects s last w h 2 1 narrower l) (finds s last w h 2 narrower (named-one narrower narrower-reached))
+      (omega (arith, h .holds .commands))
       (λ q. d (rw (word-there s last w h 2 narrower (named-one narrower narrower-reached)) at (q .0))))
 
 module _ (s : State) (last : ℕ) (h : Panel s last 15) where

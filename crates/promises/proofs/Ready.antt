@@ -1,16 +1,22 @@
 -- Demand 2: "A well-built command is accepted with the same fields" (`built-accepted`). And what is well built but for one thing is refused by that
 -- thing's number: 14 where there is no such interface (`built-14`), 18 where the entry's present word or a reduction word lacks the bit (`built-18`).
 use mathlib.Core.Path.{_≡_, refl, sym, ap, subst, _∙_}
+use mathlib.Core.Bool.{Bool, true, false}
 use mathlib.Core.List.{List, [], _∷_, _++_}
-use Prim.Native.Nat.{ℕ, _+_, _*_, _-_, _≤_, _<_}
+use Prim.Native.Nat.{ℕ, _+_, _*_, _-_, _/_, _%_, _^_, _≤_, _<_}
+use native.Mathlib.Nat.{div-eq-of-lt}
 use native.Mathlib.Omega.{arith}
+use borrow.Author.Tests.{ltb-true, ltb-false}
+use lib.Dec.{ltb}
 use lib.ListN.{length, getD, drop}
+use lib.Pow.{pow-mono}
 use Rattle.octets.specs.Little.{number, octets}
 use Rattle.octets.specs.Room.{part, numberAt, atStart}
 use Rattle.octets.proofs.RoomLaws.{filled-there}
 use Rattle.aes.specs.Cipher.{cipher}
 use Rattle.capability.specs.Bytes.{idOf, wordAt, fourAt, secretOf}
 use Rattle.state.specs.declared.State.{State}
+use Rattle.state.specs.Sound.{SoundFacts}
 use Rattle.packet.specs.Command.{orderOf, openLead, commandLead}
 use Rattle.packet.specs.Sealed.{sealedPacket}
 use Rattle.packet.specs.declared.fields.Order.{Order}
@@ -18,12 +24,12 @@ use Rattle.command.specs.Command.{tagged}
 use Rattle.client.specs.Seal.{askText, commandBytes}
 use Rattle.client.specs.declared.seal.Ask.{Ask}
 use Rattle.promises.specs.Step.{command, answer}
-use Rattle.promises.specs.Rules.{Hold, Gives, some}
+use Rattle.promises.specs.Rules.{Hold, Gives, slice}
 use Rattle.promises.specs.Facts.{textIn, Authentic, commandFacts}
 use Rattle.promises.specs.Packets.{keyOf, asked}
-use Rattle.promises.specs.Ready.{Parts, packetOf, WellFormed, Connects, Finds, Permits, Genuine}
-use Rattle.promises.specs.Places.{interfaceSaid, numberSaid, entrySaid, secretSaid, commandSaid, wordsSaid, recordAt, wordOf}
-use Rattle.promises.specs.Stands.{Names, Permitted}
+use Rattle.promises.specs.Ready.{Parts, packetOf, WellFormed, Connects, Finds, InRange, Permits, Genuine}
+use Rattle.promises.specs.Places.{interfaceSaid, numberSaid, entrySaid, secretSaid, commandSaid, wordsSaid, recordAt, commandsOf, wordOf}
+use Rattle.promises.specs.Stands.{BitSet, Names, Permitted}
 use Rattle.promises.specs.Typed.{Typed}
 use Rattle.promises.proofs.Built.{packet-long, built-text, built-tagged, asked-long, asked-order, asked-payload}
 use Rattle.promises.proofs.ByteLaws.{number-low}
@@ -50,12 +56,31 @@ Built14 =
 abbrev pub Built18 : Type 0
 Built18 =
     (s : State) (b : Parts) (room : List ℕ) → Typed s
-    → WellFormed b → Connects s b (length room) → Finds s b → ¬ Permits s b
+    → WellFormed b → Connects s b (length room) → Finds s b → InRange s b → ¬ Permits s b
     → answer s (command (packetOf s b) room) .number ≡ 18
 
 -- the same bit, and the same words
 permitted-by : {c d x y : ℕ} {ws us : List ℕ} → c ≡ d → x ≡ y → ws ≡ us → Permitted c x ws → Permitted d y us
 permitted-by {c} {d} {x} {y} {ws} {us} p q e h = rw (← p, ← q, ← e) h
+
+-- a bit of a word below 2 ^ n is below n
+bit-below : (c n w : ℕ) → w < 2 ^ n → BitSet c w → c < n
+bit-below c n w l set = by (ltb c n) refl where
+  zero-bit : 0 % 2 ≡ 1 → ⊥
+  zero-bit e = omega arith
+
+  by : (t : Bool) → ltb c n ≡ t → c < n
+  by true e = ltb-true c n e
+  by false e =
+      let none = div-eq-of-lt {n = w} {m = 2 ^ c} (omega (arith, pow-mono (ltb-false c n e))) in
+      absurd (zero-bit (rw none at set))
+
+-- no entry's word of a sound state has a bit at or above its command count
+in-range : (s : State) (b : Parts) → SoundFacts (s .rights) → Finds s b → Permits s b → InRange s b
+in-range s b sound f h =
+    let i = b .ask .interface in
+    let low = sound .interface (i - 1) (omega (arith, f .interface)) .word (idOf (b .capability) - 1) (omega (arith, f .entry)) in
+    bit-below (b .ask .command) (commandsOf (s .rights) i) _ low (h .0)
 
 -- ---- the packet's open part
 
@@ -100,7 +125,7 @@ module _ (s : State) (b : Parts) (w : WellFormed b) where
   authentic =
       let right : tagged (cipher (recordAt s (numberAt p 0 2) .key)) p ≡ 0 =
       rw key-back (built-tagged key (b .vector) (b .capability) (b .ask) (b .payload) (w .vector) (w .capability) (w .bytes) (w .payload) (w .fits)) in
-      zero-hold (some 8 1 (commandFacts s p 0)) refl (subst (Gives (some 8 1 (commandFacts s p 0))) right (tag-gives s p (omega (arith, long)))) .0
+      zero-hold (slice 8 1 (commandFacts s p 0)) refl (subst (Gives (slice 8 1 (commandFacts s p 0))) right (tag-gives s p (omega (arith, long)))) .0
 
   -- ---- the text
 
@@ -141,7 +166,7 @@ module _ (s : State) (b : Parts) (w : WellFormed b) where
 
   -- ---- the facts
 
-  connects-hold : (room : ℕ) → Connects s b room → Hold (some 0 9 (commandFacts s p room))
+  connects-hold : (room : ℕ) → Connects s b room → Hold (slice 0 9 (commandFacts s p room))
   connects-hold room c = (
     c .sound,
     (
@@ -180,9 +205,9 @@ module _ (s : State) (b : Parts) (w : WellFormed b) where
     ),
   )
 
-  finds-hold : Finds s b → Hold (textFacts 14 4 s p t)
-  finds-hold f =
-      rw (said .interface, said .entry, said .group, said .command) (f .interface, (f .entry, (f .owner, (f .command, tt))))
+  finds-hold : Finds s b → InRange s b → Hold (textFacts 14 4 s p t)
+  finds-hold f l =
+      rw (said .interface, said .entry, said .group, said .command) (f .interface, (f .entry, (f .owner, (l, tt))))
 
   word-said : wordOf (s .rights) (interfaceSaid t) (entrySaid t) ≡ wordOf (s .rights) (b .ask .interface) (idOf (b .capability))
   word-said = rw (said .interface, said .entry)
@@ -201,38 +226,38 @@ module _ (s : State) (b : Parts) (w : WellFormed b) where
     given : Gives (commandFacts s p (length room)) (answer s (command p room) .number)
     given = command-number s p room typed
 
-    upto13 : Hold (some 0 9 (commandFacts s p (length room)) ++ textFacts 9 5 s p (textIn s p))
+    upto13 : Hold (slice 0 9 (commandFacts s p (length room)) ++ textFacts 9 5 s p (textIn s p))
     upto13 =
-        hold-append (some 0 9 (commandFacts s p (length room))) (textFacts 9 5 s p (textIn s p)) (connects-hold (length room) c)
+        hold-append (slice 0 9 (commandFacts s p (length room))) (textFacts 9 5 s p (textIn s p)) (connects-hold (length room) c)
         (subst (λ x. Hold (textFacts 9 5 s p x)) (sym text-back) (fields-hold (length room) c))
 
     no-interface : ¬ Names (b .ask .interface) (s .rights .interfaces) → answer s (command p room) .number ≡ 14
     no-interface d =
-        fails (some 0 9 (commandFacts s p (length room)) ++ textFacts 9 5 s p (textIn s p)) 14 (textFacts 15 5 s p (textIn s p)) _ upto13
+        fails (slice 0 9 (commandFacts s p (length room)) ++ textFacts 9 5 s p (textIn s p)) 14 (textFacts 15 5 s p (textIn s p)) _ upto13
         (rw (text-back, said .interface) d) given
 
-    module _ (f : Finds s b) where
-      upto17 : Hold (some 0 9 (commandFacts s p (length room)) ++ textFacts 9 9 s p (textIn s p))
+    module _ (f : Finds s b) (l : InRange s b) where
+      upto17 : Hold (slice 0 9 (commandFacts s p (length room)) ++ textFacts 9 9 s p (textIn s p))
       upto17 =
-          hold-append (some 0 9 (commandFacts s p (length room)) ++ textFacts 9 5 s p (textIn s p)) (textFacts 14 4 s p (textIn s p)) upto13
-          (subst (λ x. Hold (textFacts 14 4 s p x)) (sym text-back) (finds-hold f))
+          hold-append (slice 0 9 (commandFacts s p (length room)) ++ textFacts 9 5 s p (textIn s p)) (textFacts 14 4 s p (textIn s p)) upto13
+          (subst (λ x. Hold (textFacts 14 4 s p x)) (sym text-back) (finds-hold f l))
 
       no-permission : ¬ Permits s b → answer s (command p room) .number ≡ 18
       no-permission d =
-          fails (some 0 9 (commandFacts s p (length room)) ++ textFacts 9 9 s p (textIn s p)) 18 (textFacts 19 1 s p (textIn s p)) _ upto17
+          fails (slice 0 9 (commandFacts s p (length room)) ++ textFacts 9 9 s p (textIn s p)) 18 (textFacts 19 1 s p (textIn s p)) _ upto17
           (λ h. d (permitted-by (said .command) word-said (said .words)
           (subst (λ x. Permitted (commandSaid x) (wordOf (s .rights) (interfaceSaid x) (entrySaid x)) (wordsSaid x)) text-back h))) given
 
       -- all but the secret
-      upto18 : Permits s b → Hold (some 0 19 (commandFacts s p (length room)))
+      upto18 : Permits s b → Hold (slice 0 19 (commandFacts s p (length room)))
       upto18 h =
-          hold-append (some 0 9 (commandFacts s p (length room)) ++ textFacts 9 9 s p (textIn s p)) (textFacts 18 1 s p (textIn s p)) upto17
+          hold-append (slice 0 9 (commandFacts s p (length room)) ++ textFacts 9 9 s p (textIn s p)) (textFacts 18 1 s p (textIn s p)) upto17
           (subst (λ x. Hold (textFacts 18 1 s p x)) (sym text-back) (permits-hold h))
 
       all-right : Permits s b → Genuine s b → answer s (command p room) .number ≡ 0
       all-right h g =
           hold-zero (commandFacts s p (length room)) _
-          (hold-append (some 0 19 (commandFacts s p (length room))) (textFacts 19 1 s p (textIn s p)) (upto18 h)
+          (hold-append (slice 0 19 (commandFacts s p (length room))) (textFacts 19 1 s p (textIn s p)) (upto18 h)
           (subst (λ x. Hold (textFacts 19 1 s p x)) (sym text-back) (genuine-holds g))) given
 
 -- ---- what a built packet says, wherever it is heard
@@ -268,16 +293,16 @@ pub built-14 : Built14
 built-14 s b room typed w c d = no-interface s b w room typed c d
 
 pub built-18 : Built18
-built-18 s b room typed w c f d = no-permission s b w room typed c f d
+built-18 s b room typed w c f l d = no-permission s b w room typed c f l d
 
 -- all facts but the secret's
 pub built-upto18 : (s : State) (b : Parts) (room : List ℕ) → Typed s → WellFormed b → Connects s b (length room) → Finds s b → Permits s b
-    → Hold (some 0 19 (commandFacts s (packetOf s b) (length room)))
-built-upto18 s b room typed w c f h = upto18 s b w room typed c f h
+    → Hold (slice 0 19 (commandFacts s (packetOf s b) (length room)))
+built-upto18 s b room typed w c f h = upto18 s b w room typed c f (in-range s b (c .sound) f h) h
 
 pub built-accepted : BuiltAccepted
 built-accepted s b room typed w c f h g =
-    let e = all-right s b w room typed c f h g in
+    let e = all-right s b w room typed c f (in-range s b (c .sound) f h) h g in
     let left = accepted-says s (packetOf s b) room typed e in (
       e,
       left .order ∙ rw (text-back s b w) (says s b w),

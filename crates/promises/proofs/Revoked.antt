@@ -17,7 +17,7 @@ use Rattle.state.specs.declared.State.{State}
 use Rattle.promises.specs.Step.{Call, request, proof, command, reply, close, revoke, answer, next}
 use Rattle.promises.specs.Series.{after}
 use Rattle.promises.specs.Among.{Listed}
-use Rattle.promises.specs.Rules.{Hold, some}
+use Rattle.promises.specs.Rules.{Hold, slice}
 use Rattle.promises.specs.Facts.{textIn, commandFacts}
 use Rattle.promises.specs.Places.{interfaceSaid, entrySaid, commandSaid, entryAt, wordOf}
 use Rattle.promises.specs.Stands.{BitSet}
@@ -41,7 +41,7 @@ RevokedAtOnce =
     → (ks : List Call) (p room : List ℕ) → Asks (after s (revoke i e w ∷ ks)) p i e c
     → let later : State = after s (revoke i e w ∷ ks) in
     Listed upTo18 (answer later (command p room) .number)
-    × (Hold (some 0 18 (commandFacts later p (length room))) → answer later (command p room) .number ≡ 18)
+    × (Hold (slice 0 18 (commandFacts later p (length room))) → answer later (command p room) .number ≡ 18)
 
 -- the present word of an entry only ever loses bits
 abbrev pub Loses : Type 0
@@ -95,12 +95,12 @@ module _ (s : State) (p room : List ℕ) (typed : Typed s)
     (taken : ¬ BitSet (commandSaid (textIn s p)) (wordOf (s .rights) (interfaceSaid (textIn s p)) (entrySaid (textIn s p)))) where
   refused-listed : Listed upTo18 (answer s (command p room) .number)
   refused-listed =
-      fails-listed (some 0 18 (commandFacts s p (length room))) 18 (some 19 1 (commandFacts s p (length room))) _ (λ h. taken (h .0))
+      fails-listed (slice 0 18 (commandFacts s p (length room))) 18 (slice 19 1 (commandFacts s p (length room))) _ (λ h. taken (h .0))
       (command-number s p room typed)
 
-  refused-18 : Hold (some 0 18 (commandFacts s p (length room))) → answer s (command p room) .number ≡ 18
+  refused-18 : Hold (slice 0 18 (commandFacts s p (length room))) → answer s (command p room) .number ≡ 18
   refused-18 h =
-      fails (some 0 18 (commandFacts s p (length room))) 18 (some 19 1 (commandFacts s p (length room))) _ h (λ b. taken (b .0))
+      fails (slice 0 18 (commandFacts s p (length room))) 18 (slice 19 1 (commandFacts s p (length room))) _ h (λ b. taken (b .0))
       (command-number s p room typed)
 
 -- "at once"

@@ -24,6 +24,12 @@ use Rattle.promises.specs.Typed.{Typed}
 use Rattle.promises.proofs.RuleLaws.{zero-hold, hold-zero}
 use Rattle.promises.proofs.Facts.{textFacts, viewed, seen, authentic-tag, text-there, text-rest, command-number}
 
+-- "Theorem: accepted if and only if it stands up."
+abbrev pub AcceptedIffStands : Type 0
+AcceptedIffStands =
+    (s : State) (p room : List ℕ) → Typed s
+    → (answer s (command p room) .number ≡ 0 → Stands s p (length room)) × (Stands s p (length room) → answer s (command p room) .number ≡ 0)
+
 module _ (s : State) (p room : List ℕ) (typed : Typed s) where
   abbrev given : Gives (commandFacts s p (length room)) (answer s (command p room) .number)
   given = command-number s p room typed
@@ -163,3 +169,6 @@ module _ (s : State) (p room : List ℕ) (typed : Typed s) where
   -- of the text that the packet says
   pub accepted-says : answer s (command p room) .number ≡ 0 → Answered s p room (textIn s p)
   accepted-says e = let h = accepted-stands e in rw (said h) (accepted-answer h)
+
+pub accepted-iff-stands : AcceptedIffStands
+accepted-iff-stands s p room typed = (accepted-stands s p room typed, stands-accepted s p room typed)

@@ -20,7 +20,7 @@ use Rattle.promises.specs.Step.{Call, request, proof, command, reply, cl
 use Rattle.promises.specs.Stands.{Names}
 use Rattle.promises.specs.Subject.{subject}
 use Rattle.promises.specs.Told.{Machine, mine, Named}
-use Rattle.promises.specs.Alike.{Sound, Host, SameInterface, Alike}
+use Rattle.promises.specs.Alike.{SoundTyped, Host, SameInterface, Alike}
 use Rattle.promises.proofs.Hosts.{hosts-kept, interfaces-kept, hosts-sym, hosts-trans}
 use Rattle.promises.proofs.Contents.{interface-refl, word-elsewhere, word-both}
 use Rattle.promises.proofs.Alike.{sound-still, host-same}
@@ -53,7 +53,7 @@ elsewhere A chosen s h (revoke i e w) m x = omega arith
 -- ---- the contents of the chosen interfaces
 
 module _ (A : Machine) (chosen : ℕ → Bool) where
-  contents-kept : (s : State) → Sound s → (c : Call) → mine A chosen c ≡ false
+  contents-kept : (s : State) → SoundTyped s → (c : Call) → mine A chosen c ≡ false
       → (j : ℕ) → chosen j ≡ true → Names j (s .rights .interfaces) → SameInterface (s .rights) (next s c .rights) j
   unfolding next revoking
   contents-kept s h (request p f room) m j k l = interface-refl _ j
@@ -92,7 +92,7 @@ module _ (A : Machine) (chosen : ℕ → Bool) where
 
   -- ---- the two
 
-  pub respect : (s : State) → Sound s → Host A s → (c : Call) → mine A chosen c ≡ false → Alike A chosen s (next s c)
+  pub respect : (s : State) → SoundTyped s → Host A s → (c : Call) → mine A chosen c ≡ false → Alike A chosen s (next s c)
   respect s h k c m = record {
     first = h;
     second = sound-still s c h;

@@ -13,7 +13,7 @@ use Rattle.promises.specs.Stands.{Names}
 use Rattle.promises.specs.Told.{Machine}
 
 -- a sound state, in arrays of their lengths
-pub record Sound (s : State) : Type 0 where
+pub record SoundTyped (s : State) : Type 0 where
   pub sound : soundRights (s .rights) ≡ true
   pub words : length (s .rights .words) ≡ 128
   pub records : Sized (s .records)
@@ -41,8 +41,8 @@ pub record SameInterface (r q : Rights) (i : ℕ) : Type 0 where
 
 -- the same hosts, as many interfaces, the same contents of the chosen ones, and the same record of A
 pub record Alike (A : Machine) (chosen : ℕ → Bool) (s t : State) : Type 0 where
-  pub first : Sound s
-  pub second : Sound t
+  pub first : SoundTyped s
+  pub second : SoundTyped t
   pub host : Host A s
   pub hosts : SameHosts s t
   pub interfaces : s .rights .interfaces ≡ t .rights .interfaces

@@ -26,7 +26,7 @@ abbrev pub allowedTo : Any → List ℕ
 allowedTo (call c) = allowed c
 allowedTo (load b) = bookNumbers
 
--- "A load makes a new state and touches no other"
+-- "A load makes a new state and touches no other": it takes no state, so it can't touch one
 abbrev pub stateAfter : State → Any → State
 stateAfter s (call c) = next s c
 stateAfter s (load b) = s

@@ -51,7 +51,7 @@ FirstWordChained b =
     → ((k : ℕ) → k < 4 → BitSet (commandSaid (h .text)) (getD (wordsSaid (h .text)) k 0))
     → b .says s (command p room) .number ≡ 0
 
--- a count made up from what can be seen outside, the number of the answer and the packet's length, by whatever rule
+-- a count made up from all but the packet's bytes: from the state, the room, the number of the answer and the packet's length, by whatever rule
 pub record InventsCount (b : Box) : Type 0 where
-  pub rule : ℕ → ℕ → ℕ
-  pub count : (s : State) (p room : List ℕ) → b .says s (command p room) .blocks ≡ rule (b .says s (command p room) .number) (length p)
+  pub rule : State → List ℕ → ℕ → ℕ → ℕ
+  pub count : (s : State) (p room : List ℕ) → b .says s (command p room) .blocks ≡ rule s room (b .says s (command p room) .number) (length p)

@@ -17,7 +17,7 @@ use Rattle.client.specs.Seal.{commandBytes}
 use Rattle.client.specs.declared.seal.Ask.{Ask}
 use Rattle.promises.specs.Ready.{Parts}
 use Rattle.promises.specs.Series.{after}
-use Rattle.promises.specs.Step.{Call, request, proof, command, reply, close, revoke}
+use Rattle.promises.specs.Step.{Call, request, proof, command, reply, close, revoke, answer}
 use Rattle.book.specs.States.{loaded}
 use Rattle.promises.specs.Books.{interfaceIn, InBook, AlikeBooks}
 use Rattle.promises.specs.Told.{Machine, mine, keep, Told, heard, AllNamed}
@@ -144,10 +144,14 @@ plant = after (loaded north .state) (hello ∷ proven ∷ [])
 
 -- ---- two days, with others' calls in between
 
+abbrev pub scaleAsks : Call
+scaleAsks = request (1 ∷ 0 ∷ 5 ∷ 0 ∷ replicate 16 6 ++ scale) (replicate 16 8) room
+
+abbrev pub mixerLoses : Call
+mixerLoses = revoke 2 1 3
+
 abbrev pub northDay : List Call
-northDay =
-    hello ∷ request (1 ∷ 0 ∷ 5 ∷ 0 ∷ replicate 16 6 ++ scale) (replicate 16 8) room ∷ proven ∷ fills ∷ revoke 2 1 3
-    ∷ strays ∷ takes ∷ proof 2 (replicate 32 8) room ∷ fillsAgain ∷ []
+northDay = hello ∷ scaleAsks ∷ proven ∷ fills ∷ mixerLoses ∷ strays ∷ takes ∷ proof 2 (replicate 32 8) room ∷ fillsAgain ∷ []
 
 abbrev pub southDay : List Call
 southDay =
@@ -155,7 +159,7 @@ southDay =
 
 -- Demand 3, "And it isn't empty: a computed example, two dairies whose other interfaces have other secrets and rights, with series that meet every
 -- hypothesis and in which A's commands are accepted, refused by 14 and by 18." The panel's five answers are those of its request, its proof and its
--- three commands.
+-- three commands; the days differ, and others are accepted too: the scale's request, and a revocation on the mixer.
 pub record NotEmpty : Type 0 where
   pub host : InBook thePanel north
   pub books : AlikeBooks theFiller north south
@@ -164,3 +168,6 @@ pub record NotEmpty : Type 0 where
   pub calls : keep (mine thePanel theFiller) northDay ≡ keep (mine thePanel theFiller) southDay
   pub named : AllNamed thePanel theFiller (loaded north .state) northDay
   pub numbers : map (λ (t : Told). t .said .number) (heard thePanel (loaded north .state) northDay) ≡ 0 ∷ 0 ∷ 0 ∷ 14 ∷ 18 ∷ []
+  pub days : northDay ≢ southDay
+  pub asked : answer (after (loaded north .state) (hello ∷ [])) scaleAsks .number ≡ 0
+  pub revoked : answer (after (loaded north .state) (hello ∷ scaleAsks ∷ proven ∷ fills ∷ [])) mixerLoses .number ≡ 0

@@ -11,7 +11,7 @@ use Rattle.packet.specs.Sealed.{textOf}
 use Rattle.state.specs.declared.State.{State}
 use Rattle.state.specs.declared.transitions.Phase.the-variants.{Open}
 use Rattle.state.specs.Sound.{SoundFacts}
-use Rattle.promises.specs.Rules.{Rule, _unless_, Hold, some}
+use Rattle.promises.specs.Rules.{Rule, _unless_, Hold, slice}
 use Rattle.promises.specs.Places.{clientShown, zerosShown, vectorShown, tagShown, dataShown, encryptedPart}
 use Rattle.promises.specs.Places.{clientSaid, numberSaid, groupSaid, interfaceSaid, entrySaid, lengthSaid, commandSaid, zerosSaid, wordsSaid}
 use Rattle.promises.specs.Places.{secretSaid, groupOf, recordAt, commandsOf, entriesOf, masterOf, ownerOf, wordOf}
@@ -68,4 +68,4 @@ commandFacts s p room =
 
 -- "A command opens when it gets past 8.": the first nine facts hold
 abbrev pub Opens : State → List ℕ → ℕ → Type 0
-Opens s p room = Hold (some 0 9 (commandFacts s p room))
+Opens s p room = Hold (slice 0 9 (commandFacts s p room))

@@ -16,7 +16,7 @@ use Rattle.promises.specs.Places.{recordAt}
 use Rattle.promises.specs.Typed.{Typed}
 
 -- the packet p asks for that name; major 1 and minor 0 are the number 1, the lowest byte first
-pub record Asks (p name : List ℕ) : Type 0 where
+pub record AsksFor (p name : List ℕ) : Type 0 where
   pub some : 1 ≤ length name
   pub few : length name ≤ 256
   pub size : length p ≡ 20 + length name
@@ -30,7 +30,7 @@ pub record Handshake (s : State) (h : ℕ) (name p f c : List ℕ) (m n : ℕ) :
   pub sound : soundRights (s .rights) ≡ true
   pub host : found (s .rights) (s .names) name ≡ h
   pub there : 1 ≤ h
-  pub asks : Asks p name
+  pub asks : AsksFor p name
   pub second : length f ≡ 16
   pub third : length c ≡ 16
   pub asked-room : 32 ≤ m

@@ -21,7 +21,16 @@ use Rattle.promises.specs.Subject.{subject}
 abbrev zeros : List ℕ
 zeros = replicate 16 0
 
--- the record of the host that an accepted call is about, of the one before it
+-- a call about a host: any but a revocation
+abbrev pub AboutHost : Call → Type 0
+AboutHost (request p f room) = Unit
+AboutHost (proof h p room) = Unit
+AboutHost (command p room) = Unit
+AboutHost (reply h n pay room) = Unit
+AboutHost (close h) = Unit
+AboutHost (revoke i e w) = ⊥
+
+-- the record that an accepted call leaves its host, from the record r that it had
 abbrev pub leaves : State → Call → Record → Record
 -- "The host named .. becomes waiting", with the lent fresh bytes as challenge 2; "an earlier connection ends there"
 leaves s (request p f room) r = record { phase = Waiting; challenge = f; key = zeros }

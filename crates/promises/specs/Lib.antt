@@ -8,6 +8,7 @@ pub mod One
 pub mod Rules
 pub mod Stands
 pub mod Facts
+pub mod CallFacts
 pub mod Text
 pub mod Counts
 pub mod Samples

@@ -48,12 +48,15 @@ pub record Connects (s : State) (b : Parts) (room : ℕ) : Type 0 where
   pub group : OfGroup (b .ask .group) (groupOf (s .rights) (b .ask .client))
   pub space : length (b .payload) ≤ room
 
--- the interface and the entry are there, the entry is for the group, and the command is one of the interface's
+-- the interface and the entry are there, and the entry is for the group
 pub record Finds (s : State) (b : Parts) : Type 0 where
   pub interface : Names (b .ask .interface) (s .rights .interfaces)
   pub entry : Names (idOf (b .capability)) (entriesOf (s .rights) (b .ask .interface))
   pub owner : OfGroup (ownerOf (s .rights) (b .ask .interface) (idOf (b .capability))) (b .ask .group)
-  pub command : b .ask .command < commandsOf (s .rights) (b .ask .interface)
+
+-- the command is one of the interface's; of a sound state, where the entry permits it, it is
+abbrev pub InRange : State → Parts → Type 0
+InRange s b = b .ask .command < commandsOf (s .rights) (b .ask .interface)
 
 -- "whose words and entry permit it"
 abbrev pub Permits : State → Parts → Type 0

@@ -18,13 +18,14 @@ abbrev pub Gives : List Rule → ℕ → Type 0
 Gives [] n = n ≡ 0
 Gives ((m unless F) ∷ rs) n = ((¬ F) × (n ≡ m)) ⊎ (F × Gives rs n)
 
--- n of the rules, from the k-th on
+-- the first n of the rules
 abbrev first : ℕ → List Rule → List Rule
 first zero rs = []
 first (suc n) [] = []
 first (suc n) (r ∷ rs) = r ∷ first n rs
 
-abbrev pub some : ℕ → ℕ → List Rule → List Rule
-some zero n rs = first n rs
-some (suc k) n [] = []
-some (suc k) n (r ∷ rs) = some k n rs
+-- n of the rules, after the first k
+abbrev pub slice : ℕ → ℕ → List Rule → List Rule
+slice zero n rs = first n rs
+slice (suc k) n [] = []
+slice (suc k) n (r ∷ rs) = slice k n rs

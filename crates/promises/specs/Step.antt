@@ -1,4 +1,6 @@
--- A server call as data, what it is answered, and the state after it: one step, made of the definitions that the calls' contracts name.
+-- A server call as data, what it is answered, and the state after it: one step, made of the definitions that the calls' contracts name (proofs/Linked: of
+-- the contracts as they stand in the source). Packets, fresh bytes and payloads are lent for reading, and their types forbid writing, so only the
+-- room is followed.
 use Prim.Native.Nat.{ℕ}
 use mathlib.Core.List.{List, []}
 use lib.ListN.{length}

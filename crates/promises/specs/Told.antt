@@ -23,6 +23,7 @@ pub record Machine : Type 0 where
   pub number : ℕ
 
 -- "About A: a request whose name field is A's name; a proof, reply or close with A's number; a command packet with A's client ID in its open part."
+-- The name field is all that stands after byte 20; where the length field differs, 22 refuses.
 abbrev pub about : Machine → Call → Bool
 about A (request p f room) = same (asked p) (A .name)
 about A (proof h p room) = eqb h (A .number)

@@ -1,4 +1,4 @@
--- What the code's types say of a state, whose arrays are lists here: each has its length. Every state of the code meets it; so does every loaded one,
+-- What the code's types say of a state, whose arrays are lists here: those that the promises need have their lengths. Every state of the code meets it; so does every loaded one,
 -- and every call keeps it (proofs/Books, `typed-loaded`; proofs/Typed).
 use mathlib.Core.Path.{_≡_}
 use lib.ListN.{length}
