@@ -55,7 +55,7 @@ LoadsEnd =
 pub typed-loaded : (b : List ℕ) → Typed (loaded b .state)
 typed-loaded b = record { words = load-words b; secrets = load-secrets b; records = load-sized b }
 
-sound-loaded : (b : List ℕ) → SoundTyped (loaded b .state)
+pub sound-loaded : (b : List ℕ) → SoundTyped (loaded b .state)
 sound-loaded b = record { sound = load-sound b; words = load-words b; records = load-sized b }
 
 -- ---- a good book's state holds what the book says

@@ -41,7 +41,8 @@ use Rattle.promises.proofs.Panel.{connects, under-key, finds, word-ther
 use Rattle.promises.proofs.ReachedLaws as R
 use Rattle.promises.proofs.ReachedLaws.{issued-words, capability-bytes}
 use Rattle.promises.proofs.Ready.{built-long, built-words, built-interface, built-entry, built-command, built-secret, built-upto18}
-use Rattle.promises.proofs.RuleLaws.{fails}
+use Rattle.promises.proofs.RuleLaws.{fails, hold-first}
+use Rattle.promises.proofs.Stands.{all-but-right}
 
 -- "refuses all": the filler's command is accepted by ours
 abbrev pub NotRefusingAll : Type 0
@@ -204,34 +205,13 @@ claims-nineteen =
 
 -- by its first word it stands up
 by-first : StandsByFirst plant p 48
+unfolding all-but-right
 by-first =
-    let client = upto18 .1 .1 .1 .1 in
-    let tag = client .1 .1 .1 .1 .0 in
-    let inside = client .1 .1 .1 .1 .1 in
-    let fresh = inside .1 .1 .1 .0 in
-    let right = inside .1 .1 .1 .1 .1 in
+    let right = upto18 .1 .1 .1 .1 .1 .1 .1 .1 .1 .1 .1 .1 .1 .1 in
     let first : firstWord t ≡ 12 ∷ allOnes ∷ allOnes ∷ allOnes ∷ [] =
     ap (λ (ws : List ℕ). getD ws 0 0 ∷ allOnes ∷ allOnes ∷ allOnes ∷ []) said-words in
     let two = built-command plant (asks 1 1 claimed) claimed-formed in record {
-      sound = upto18 .0;
-      outside = record {
-        long = upto18 .1 .0;
-        short = upto18 .1 .1 .0;
-        zeros = upto18 .1 .1 .1 .0;
-        client = client .0;
-        vector = client .1 .0;
-      };
-      fits = client .1 .1 .1 .0;
-      last = fresh .last;
-      text = t;
-      inside = record { owed = fresh .owed; connected = fresh .phase; blocks = tag .blocks; authentic = tag .opens };
-      says = record {
-        client = inside .0;
-        zeros = inside .1 .0;
-        payload = inside .1 .1 .0;
-        number = fresh .holds;
-        group = inside .1 .1 .1 .1 .0;
-      };
+      arrives = all-but-right plant p 48 (hold-first (slice 0 14 (commandFacts plant p 48)) (slice 14 5 (commandFacts plant p 48)) upto18);
       entitled = record {
         interface = right .0;
         entry = right .1 .0;
@@ -265,7 +245,7 @@ not-keeping-state b h e =
     absurd (omega arith)
 
 pub not-chaining-first : NotChainingFirst
-unfolding by-first
+unfolding by-first all-but-right
 not-chaining-first b h =
     under-key plant 0 15 connected 1 1 claimed (λ q. b .says plant (command q room) ≢ answer plant (command q room)) apart
   where

@@ -107,13 +107,13 @@ module _ (s : State) where
           row (slice 3 3 facts) 25 _ _ (λ q. rw (eq-eqb _ 32 q)) λ t25. (
             eqb-true _ 32 (not-false _ t25),
             rw (place-there h (s .rights .hosts) 32 t4) (
-            row (slice 4 2 facts) 26 _ _ (λ q. rw q) λ t26. (
-              waiting-phase _ (not-false _ t26),
-              row (slice 5 1 facts) 27 _ _ (λ q. rw (q, same-refl)) λ t27. (
-                same-true _ _ (not-false _ t27),
-                row [] 7 _ _ (λ q. le-ltb (length room) 20 q) λ t7. (ltb-false (length room) 20 t7, refl),
-              ),
-            )),
+                row (slice 4 2 facts) 26 _ _ (λ q. rw q) λ t26. (
+                  waiting-phase _ (not-false _ t26),
+                  row (slice 5 1 facts) 27 _ _ (λ q. rw (q, same-refl)) λ t27. (
+                    same-true _ _ (not-false _ t27),
+                    row [] 7 _ _ (λ q. le-ltb (length room) 20 q) λ t7. (ltb-false (length room) 20 t7, refl),
+                  ),
+                )),
           ),
         ),
       )
@@ -127,16 +127,16 @@ module _ (s : State) where
         row (slice 2 4 facts) 4 _ _ (λ q. named-such _ _ q) λ t4. (
           such h (s .rights .hosts) t4,
           rw (place-there h (s .rights .hosts) 32 t4) (
-          row (slice 3 3 facts) 6 _ _ (λ q. rw (q .phase)) λ t6. (
-            (let o = open-phase _ (not-false _ t6) in record { last = o .0; owed = o .1; phase = o .2 }),
-            row (slice 4 2 facts) 29 _ _ (λ q. rw (q, eq-eqb n n refl)) λ t29. (
-              owing-phase _ n (not-false _ t29),
-              row (slice 5 1 facts) 30 _ _ (λ q. le-ltb 16384 (length pay) q) λ t30. (
-                ltb-false 16384 (length pay) t30,
-                row [] 7 _ _ (λ q. le-ltb (length room) (32 + length pay) q) λ t7. (ltb-false (length room) (32 + length pay) t7, refl),
-              ),
-            ),
-          )),
+              row (slice 3 3 facts) 6 _ _ (λ q. rw (q .phase)) λ t6. (
+                (let o = open-phase _ (not-false _ t6) in record { last = o .0; owed = o .1; phase = o .2 }),
+                row (slice 4 2 facts) 29 _ _ (λ q. rw (q, eq-eqb n n refl)) λ t29. (
+                  owing-phase _ n (not-false _ t29),
+                  row (slice 5 1 facts) 30 _ _ (λ q. le-ltb 16384 (length pay) q) λ t30. (
+                    ltb-false 16384 (length pay) t30,
+                    row [] 7 _ _ (λ q. le-ltb (length room) (32 + length pay) q) λ t7. (ltb-false (length room) (32 + length pay) t7, refl),
+                  ),
+                ),
+              )),
         ),
       )
 

@@ -63,6 +63,10 @@ pub hold-append : (rs qs : List Rule) → Hold rs → Hold qs → Hold (rs ++ qs
 hold-append [] qs h k = k
 hold-append ((m unless F) ∷ rs) qs h k = (h .0, hold-append rs qs (h .1) k)
 
+pub hold-first : (rs qs : List Rule) → Hold (rs ++ qs) → Hold rs
+hold-first [] qs h = tt
+hold-first ((m unless F) ∷ rs) qs h = (h .0, hold-first rs qs (h .1))
+
 -- an order of facts gives one number
 pub gives-one : (rs : List Rule) (n k : ℕ) → Gives rs n → Gives rs k → n ≡ k
 gives-one [] n k g h = g ∙ sym h

@@ -16,12 +16,12 @@ use Rattle.command.specs.Command.{ciphOf, text, order, commandRefusal}
 use Rattle.command.specs.Heard.{heard, heardRoom}
 use Rattle.gateway.specs.Command.{commandHeard, commanding, commandRoom}
 use Rattle.promises.specs.Step.{command, answer, next}
-use Rattle.promises.specs.Rules.{Hold, Gives}
+use Rattle.promises.specs.Rules.{Hold, Gives, slice}
 use Rattle.promises.specs.Facts.{textIn, commandFacts}
-use Rattle.promises.specs.Stands.{Stands}
+use Rattle.promises.specs.Stands.{Arrives, Stands}
 use Rattle.promises.specs.Answered.{owing, Answered}
 use Rattle.promises.specs.Typed.{Typed}
-use Rattle.promises.proofs.RuleLaws.{zero-hold, hold-zero}
+use Rattle.promises.proofs.RuleLaws.{hold-first, zero-hold, hold-zero}
 use Rattle.promises.proofs.Facts.{textFacts, viewed, seen, authentic-tag, text-there, text-rest, command-number}
 
 -- "Theorem: accepted if and only if it stands up."
@@ -30,37 +30,44 @@ AcceptedIffStands =
     (s : State) (p room : List ℕ) → Typed s
     → (answer s (command p room) .number ≡ 0 → Stands s p (length room)) × (Stands s p (length room) → answer s (command p room) .number ≡ 0)
 
+-- what the facts before 14 say: all but the right
+unfoldable pub all-but-right : (s : State) (p : List ℕ) (room : ℕ) → Hold (slice 0 14 (commandFacts s p room)) → Arrives s p room
+all-but-right s p room outside =
+    let client = outside .1 .1 .1 .1 in
+    let tag = client .1 .1 .1 .1 .0 in
+    let inside = client .1 .1 .1 .1 .1 in
+    let fresh = inside .1 .1 .1 .0 in record {
+      sound = outside .0;
+      outside = record {
+        long = outside .1 .0;
+        short = outside .1 .1 .0;
+        zeros = outside .1 .1 .1 .0;
+        client = client .0;
+        vector = client .1 .0;
+      };
+      fits = client .1 .1 .1 .0;
+      last = fresh .last;
+      text = textIn s p;
+      inside = record { owed = fresh .owed; connected = fresh .phase; blocks = tag .blocks; authentic = tag .opens };
+      says = record {
+        client = inside .0;
+        zeros = inside .1 .0;
+        payload = inside .1 .1 .0;
+        number = fresh .holds;
+        group = inside .1 .1 .1 .1 .0;
+      };
+    }
+
 module _ (s : State) (p room : List ℕ) (typed : Typed s) where
   abbrev given : Gives (commandFacts s p (length room)) (answer s (command p room) .number)
   given = command-number s p room typed
 
   pub accepted-stands : answer s (command p room) .number ≡ 0 → Stands s p (length room)
+  unfolding all-but-right
   accepted-stands e =
-      let outside = zero-hold (commandFacts s p (length room)) refl (subst (Gives (commandFacts s p (length room))) e given) in
-      let client = outside .1 .1 .1 .1 in
-      let tag = client .1 .1 .1 .1 .0 in
-      let inside = client .1 .1 .1 .1 .1 in
-      let fresh = inside .1 .1 .1 .0 in
-      let right = inside .1 .1 .1 .1 .1 in record {
-        sound = outside .0;
-        outside = record {
-          long = outside .1 .0;
-          short = outside .1 .1 .0;
-          zeros = outside .1 .1 .1 .0;
-          client = client .0;
-          vector = client .1 .0;
-        };
-        fits = client .1 .1 .1 .0;
-        last = fresh .last;
-        text = textIn s p;
-        inside = record { owed = fresh .owed; connected = fresh .phase; blocks = tag .blocks; authentic = tag .opens };
-        says = record {
-          client = inside .0;
-          zeros = inside .1 .0;
-          payload = inside .1 .1 .0;
-          number = fresh .holds;
-          group = inside .1 .1 .1 .1 .0;
-        };
+      let facts = zero-hold (commandFacts s p (length room)) refl (subst (Gives (commandFacts s p (length room))) e given) in
+      let right = facts .1 .1 .1 .1 .1 .1 .1 .1 .1 .1 .1 .1 .1 .1 in record {
+        arrives = all-but-right s p (length room) (hold-first (slice 0 14 (commandFacts s p (length room))) (slice 14 6 (commandFacts s p (length room))) facts);
         entitled = record {
           interface = right .0;
           entry = right .1 .0;
@@ -71,7 +78,10 @@ module _ (s : State) (p room : List ℕ) (typed : Typed s) where
         };
       }
 
-  module _ (h : Stands s p (length room)) where
+  module _ (stands : Stands s p (length room)) where
+    abbrev h : Arrives s p (length room)
+    h = stands .arrives
+
     -- the text is what the check deciphers
     said : textIn s p ≡ h .text
     said = authentic-tag _ _ _ _ _ (h .text) (h .inside .blocks) (h .inside .authentic) .1
@@ -80,7 +90,7 @@ module _ (s : State) (p room : List ℕ) (typed : Typed s) where
     all-hold =
         let o = h .outside in
         let f = h .says in
-        let r = h .entitled in
+        let r = stands .entitled in
         let phase = h .inside .connected in (
           h .sound,
           (
@@ -153,7 +163,7 @@ module _ (s : State) (p room : List ℕ) (typed : Typed s) where
     unfolding next commanding commandHeard heard order orderOf
     records-left = rw (seen s p (h .outside .client), passes, text-said, h .inside .connected)
 
-    pub accepted-answer : Answered s p room (h .text)
+    pub accepted-answer : Answered s p room (stands .arrives .text)
     unfolding answer commandHeard commandRoom heard heardRoom order
     accepted-answer =
         let low = h .sound .hosts in

@@ -8,10 +8,9 @@ use Prim.Native.Nat.{ℕ, _+_, _≤_, _<_}
 use lib.ListN.{length, getD}
 use Rattle.capability.specs.Chain.{allOnes}
 use Rattle.state.specs.declared.State.{State}
-use Rattle.state.specs.Sound.{SoundFacts}
-use Rattle.promises.specs.Places.{interfaceSaid, entrySaid, commandSaid, wordsSaid}
+use Rattle.promises.specs.Places.{commandSaid, wordsSaid}
 use Rattle.promises.specs.Step.{Call, command, Said}
-use Rattle.promises.specs.Stands.{BitSet, OpenPart, Connected, Fields, Entitled}
+use Rattle.promises.specs.Stands.{BitSet, Arrives, EntitledBy}
 
 pub record Box : Type 0 where
   pub says : State → Call → Said
@@ -32,14 +31,8 @@ firstWord t = getD (wordsSaid t) 0 0 ∷ allOnes ∷ allOnes ∷ allOnes ∷ []
 
 -- a packet that stands up by its first word: `Stands`, but for the other three
 pub record StandsByFirst (s : State) (p : List ℕ) (room : ℕ) : Type 0 where
-  pub sound : SoundFacts (s .rights)
-  pub outside : OpenPart s p
-  pub fits : length p ≤ room + 96
-  pub last : ℕ
-  pub text : List ℕ
-  pub inside : Connected s p last text
-  pub says : Fields s p last text
-  pub entitled : Entitled s text (interfaceSaid text) (entrySaid text) (commandSaid text) (firstWord text)
+  pub arrives : Arrives s p room
+  pub entitled : EntitledBy s (arrives .text) (firstWord (arrives .text))
 
 abbrev pub FirstWordOnly : Box → Type 0
 FirstWordOnly b = (s : State) (p room : List ℕ) → StandsByFirst s p (length room) → b .says s (command p room) .number ≡ 0
@@ -48,7 +41,7 @@ FirstWordOnly b = (s : State) (p room : List ℕ) → StandsByFirst s p (length 
 abbrev pub FirstWordChained : Box → Type 0
 FirstWordChained b =
     (s : State) (p room : List ℕ) (h : StandsByFirst s p (length room))
-    → ((k : ℕ) → k < 4 → BitSet (commandSaid (h .text)) (getD (wordsSaid (h .text)) k 0))
+    → ((k : ℕ) → k < 4 → BitSet (commandSaid (h .arrives .text)) (getD (wordsSaid (h .arrives .text)) k 0))
     → b .says s (command p room) .number ≡ 0
 
 -- a count made up from all but the packet's bytes: from the state, the room, the number of the answer and the packet's length, by whatever rule

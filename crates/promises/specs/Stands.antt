@@ -66,8 +66,8 @@ pub record Entitled (s : State) (t : List ℕ) (i e c : ℕ) (words : List ℕ) 
   pub permitted : Permitted c (wordOf (s .rights) i e) words
   pub genuine : secretSaid t ≡ rightSecret (masterOf (s .rights) i) e words
 
--- the packet p, with a lent room of that length, stands up in the state s
-pub record Stands (s : State) (p : List ℕ) (room : ℕ) : Type 0 where
+-- all that is asked of the packet p, with a lent room of that length, but the right that it names
+pub record Arrives (s : State) (p : List ℕ) (room : ℕ) : Type 0 where
   pub sound : SoundFacts (s .rights)
   pub outside : OpenPart s p
   pub fits : length p ≤ room + 96
@@ -75,4 +75,12 @@ pub record Stands (s : State) (p : List ℕ) (room : ℕ) : Type 0 where
   pub text : List ℕ
   pub inside : Connected s p last text
   pub says : Fields s p last text
-  pub entitled : Entitled s text (interfaceSaid text) (entrySaid text) (commandSaid text) (wordsSaid text)
+
+-- it is entitled to what its text t names, by those reduction words
+abbrev pub EntitledBy : State → List ℕ → List ℕ → Type 0
+EntitledBy s t words = Entitled s t (interfaceSaid t) (entrySaid t) (commandSaid t) words
+
+-- it stands up in the state s
+pub record Stands (s : State) (p : List ℕ) (room : ℕ) : Type 0 where
+  pub arrives : Arrives s p room
+  pub entitled : EntitledBy s (arrives .text) (wordsSaid (arrives .text))
