@@ -2,6 +2,7 @@
 use mathlib.Core.Path.{_≡_, refl}
 use mathlib.Core.List.{List, [], _∷_}
 use Prim.Native.Nat.{ℕ}
+use lib.ListN.{replicate}
 use Rattle.aes.specs.Field.{_•_, product}
 use Rattle.aes.specs.Sbox.{sbox, table}
 use Rattle.aes.specs.KeyExpansion.{power, nextKey, roundKey}
@@ -32,3 +33,22 @@ pub vector-c : cipher (0x00 ∷ 0x01 ∷ 0x02 ∷ 0x03 ∷ 0x04 ∷ 0x05 ∷ 0x0
     ≡ 0x69 ∷ 0xc4 ∷ 0xe0 ∷ 0xd8 ∷ 0x6a ∷ 0x7b ∷ 0x04 ∷ 0x30 ∷ 0xd8 ∷ 0xcd ∷ 0xb7 ∷ 0x80 ∷ 0x70 ∷ 0xb4 ∷ 0xc5 ∷ 0x5a ∷ []
 unfolding _•_ product sbox table power nextKey roundKey mixed roundOf lastRound rounds cipherBy cipher
 vector-c = refl
+
+-- ---- three blocks, each enciphered under the one before it: the secrets of a capability that is narrowed twice (promises/proofs/Boxes)
+
+abbrev pub zeroth : List ℕ
+zeroth = 131 ∷ 173 ∷ 19 ∷ 2 ∷ 50 ∷ 231 ∷ 18 ∷ 239 ∷ 4 ∷ 103 ∷ 238 ∷ 114 ∷ 210 ∷ 191 ∷ 172 ∷ 71 ∷ []
+
+abbrev pub once : List ℕ
+once = 136 ∷ 94 ∷ 15 ∷ 221 ∷ 141 ∷ 56 ∷ 89 ∷ 57 ∷ 152 ∷ 242 ∷ 7 ∷ 182 ∷ 157 ∷ 126 ∷ 83 ∷ 37 ∷ []
+
+abbrev pub twice : List ℕ
+twice = 166 ∷ 101 ∷ 175 ∷ 55 ∷ 207 ∷ 237 ∷ 250 ∷ 228 ∷ 47 ∷ 126 ∷ 238 ∷ 135 ∷ 123 ∷ 179 ∷ 12 ∷ 148 ∷ []
+
+-- a block of that first byte and zeros
+abbrev pub low : ℕ → List ℕ
+low b = b ∷ replicate 15 0
+
+pub chain-of-three : (cipher (replicate 16 3) (low 1) ≡ zeroth) × (cipher zeroth (low 12) ≡ once) × (cipher once (low 6) ≡ twice)
+unfolding _•_ product sbox table power nextKey roundKey mixed roundOf lastRound rounds cipherBy cipher
+chain-of-three = (refl, refl, refl)

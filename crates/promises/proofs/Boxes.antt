@@ -9,11 +9,7 @@ use Prim.Native.Nat.{ℕ, zero, suc, _+_, _-_, _<_, _^_}
 use native.Mathlib.Omega.{arith}
 use lib.ListN.{length, getD, replicate}
 use Rattle.octets.specs.Little.{octets}
-use Rattle.aes.specs.Field.{_•_, product}
-use Rattle.aes.specs.Sbox.{sbox, table}
-use Rattle.aes.specs.KeyExpansion.{power, nextKey, roundKey}
-use Rattle.aes.specs.Cipher.{mixed, roundOf, lastRound, rounds, cipherBy, cipher}
-use Rattle.aes.proofs.CipherLaws.{cipher-length}
+use Rattle.aes.proofs.Vectors.{zeroth, once, twice, chain-of-three}
 use Rattle.ghash.specs.Ghash.{blocksIn}
 use Rattle.capability.specs.Bytes.{idOf, fourAt, secretOf}
 use Rattle.capability.specs.Chain.{allOnes, idBlock, wordBlock, firstSecret, step, chain, rightSecret, before}
@@ -111,19 +107,10 @@ whole-eight =
 
 -- ---- the claimed narrowing
 
--- the first three secrets of the chain, each enciphered under the one before it (FIPS 197)
-abbrev zeroth : List ℕ
-zeroth = 131 ∷ 173 ∷ 19 ∷ 2 ∷ 50 ∷ 231 ∷ 18 ∷ 239 ∷ 4 ∷ 103 ∷ 238 ∷ 114 ∷ 210 ∷ 191 ∷ 172 ∷ 71 ∷ []
-
-abbrev once : List ℕ
-once = 136 ∷ 94 ∷ 15 ∷ 221 ∷ 141 ∷ 56 ∷ 89 ∷ 57 ∷ 152 ∷ 242 ∷ 7 ∷ 182 ∷ 157 ∷ 126 ∷ 83 ∷ 37 ∷ []
-
-abbrev twice : List ℕ
-twice = 166 ∷ 101 ∷ 175 ∷ 55 ∷ 207 ∷ 237 ∷ 250 ∷ 228 ∷ 47 ∷ 126 ∷ 238 ∷ 135 ∷ 123 ∷ 179 ∷ 12 ∷ 148 ∷ []
-
+-- the first three secrets of the chain, each enciphered under the one before it (FIPS 197), as the check computes them
 secrets : (firstSecret master 1 ≡ zeroth) × (step zeroth 12 ≡ once) × (step once 6 ≡ twice)
-unfolding firstSecret step octets _•_ product sbox table power nextKey roundKey mixed roundOf lastRound rounds cipherBy cipher
-secrets = (refl, refl, refl)
+unfolding firstSecret step octets
+secrets = chain-of-three
 
 -- the chain of 12 alone, and that of 12 and 6
 chained : (rightSecret master 1 (12 ∷ allOnes ∷ allOnes ∷ allOnes ∷ []) ≡ once)
