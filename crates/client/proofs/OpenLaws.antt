@@ -23,7 +23,7 @@ use Rattle.gcm.specs.Gcm.{zeros, subkey, j0, tagOf}
 use Rattle.gcm.proofs.GctrLaws.{gctr-count}
 use Rattle.gcm.proofs.GcmLaws.{tag-count}
 use Rattle.capability.specs.Enciphered.{Enciphered, underKey, past}
-use Rattle.packet.specs.Reply.{replyVector}
+use Rattle.fields.specs.Reply.{replyVector}
 use Rattle.packet.specs.Sealed.{rightTag, textOf}
 use Rattle.client.specs.declared.open.Opened.{Opened}
 use Rattle.client.specs.OpenReply.{vectorOf, tagIn, encrypted, replyOuter, replyTagged, replyText, replyInner, openRefusal, openBlocks, opened, openRoom}

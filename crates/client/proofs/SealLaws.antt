@@ -18,7 +18,7 @@ use Rattle.aes.specs.Cipher.{cipher}
 use Rattle.gcm.specs.Gcm.{seal}
 use Rattle.capability.specs.Bytes.{idOf}
 use Rattle.capability.specs.Enciphered.{underKey}
-use Rattle.packet.specs.Command.{commandLead, openLead}
+use Rattle.fields.specs.Command.{commandLead, openLead}
 use Rattle.packet.specs.Sealed.{sealedPacket, sealedBlocks}
 use Rattle.packet.proofs.SealedLaws.{packet-length, blocks-counted}
 use Rattle.client.specs.Seal.{sealRefusal, askText, commandBytes, sealBlocks}

@@ -12,7 +12,7 @@ use Rattle.gcm.specs.Gctr.{Out}
 use Rattle.gcm.specs.Gcm.{zeros, subkey, tagOf}
 use Rattle.capability.specs.Calls.{written}
 use Rattle.capability.specs.Enciphered.{Enciphered, underKey, past}
-use Rattle.packet.specs.Reply.{replyVector}
+use Rattle.fields.specs.Reply.{replyVector}
 use Rattle.packet.specs.Sealed.{rightTag, textOf}
 use Rattle.client.specs.declared.open.Opened.{Opened}
 

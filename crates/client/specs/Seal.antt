@@ -13,7 +13,7 @@ use Rattle.capability.specs.Bytes.{idOf}
 use Rattle.capability.specs.Calls.{answer, written}
 use Rattle.capability.specs.Enciphered.{Enciphered, underKey}
 use Rattle.capability.specs.declared.Answer.{Answer}
-use Rattle.packet.specs.Command.{commandLead, openLead}
+use Rattle.fields.specs.Command.{commandLead, openLead}
 use Rattle.packet.specs.Sealed.{sealedPacket}
 use Rattle.client.specs.declared.seal.Ask.{Ask}
 

@@ -37,7 +37,7 @@ fn judge(key: &[u8], expected: u16, reply: &[u8], room: usize) -> u8
     if 16416 < n {
         return ABOVE;
     }
-    let vector = packet::reply_vector(expected);
+    let vector = fields::reply_vector(expected);
     if !octets::equal(octets::part(reply, 0, 12), &vector) {
         return VECTOR;
     }
@@ -86,7 +86,7 @@ pub fn open_reply(key: &[u8], expected: u16, reply: &[u8], room: &mut [u8]) -> O
         return Opened { number: early, blocks: 0, length: 0 };
     }
     let p = aes::prepare(octets::sixteen(key, 0));
-    let iv = packet::vector_at(reply, 0);
+    let iv = fields::vector_at(reply, 0);
     if !packet::authentic(&p, &[], iv, octets::sixteen(reply, 12), &reply[28..]) {
         return Opened { number: TAG_WRONG, blocks: 2, length: 0 };
     }

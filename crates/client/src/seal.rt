@@ -6,7 +6,7 @@ ghost use mathlib.Core.Path.{_≡_};
 ghost use mathlib.Core.List.{_++_};
 ghost use lib.ListN.{length, drop};
 ghost use Rattle.capability.specs.Bytes.{idOf};
-ghost use Rattle.packet.specs.Command.{commandLead};
+ghost use Rattle.fields.specs.Command.{commandLead};
 ghost use Rattle.client.specs.Seal.{sealRefusal, sealing, sealRoom};
 
 const NUMBER_ZERO: u8 = 12;
@@ -54,7 +54,7 @@ fn head(capability: &[u8], ask: Ask, size: u16) -> [u8; 64]
     ensures { λ r. ⌜ r ≡ commandLead (ask .client) (ask .sequence) (ask .group) (ask .interface) (idOf (now (capability .entry))) size (ask .command) ++ drop 2 (now (capability .entry)) ⌝ }
 {
     let id = octets::u16_at(capability, 0);
-    let lead = packet::command_lead(ask.client, ask.sequence, ask.group, ask.interface, id, size, ask.command);
+    let lead = fields::command_lead(ask.client, ask.sequence, ask.group, ask.interface, id, size, ask.command);
     let mut out = [0u8; 64];
     octets::put(&mut out, 0, &lead);
     octets::put(&mut out, 16, &capability[2..]);
@@ -72,7 +72,7 @@ pub fn seal_command(key: &[u8], vector: &[u8], capability: &[u8], ask: Ask, payl
         return capability::Answer { number: number, blocks: 0 };
     }
     let lead = head(capability, ask, n as u16);
-    let open = packet::open_lead(ask.client);
-    let blocks = packet::seal(octets::sixteen(key, 0), &open, packet::vector_at(vector, 0), &lead, payload, room);
+    let open = fields::open_lead(ask.client);
+    let blocks = packet::seal(octets::sixteen(key, 0), &open, fields::vector_at(vector, 0), &lead, payload, room);
     capability::Answer { number: 0, blocks: blocks }
 }

@@ -27,10 +27,11 @@ use Rattle.capability.proofs.ChainLaws.{count-right}
 use Rattle.state.specs.declared.Rights.{Rights}
 use Rattle.view.specs.declared.View.{View}
 use Rattle.view.specs.declared.Right.{Right}
-use Rattle.packet.specs.declared.fields.Order.{Order}
-use Rattle.packet.specs.Command.{additional, vectorOf, tagIn, encrypted, orderOf, payloadOf}
+use Rattle.fields.specs.declared.Order.{Order}
+use Rattle.fields.specs.Command.{additional, vectorOf, tagIn, encrypted, orderOf, payloadOf}
 use Rattle.packet.specs.Sealed.{rightTag, textOf}
-use Rattle.packet.proofs.CommandLaws.{order-head, text-head, text-rest}
+use Rattle.fields.proofs.OrderLaws.{order-head}
+use Rattle.packet.proofs.CommandLaws.{text-head, text-rest}
 use Rattle.command.specs.Command.{ciphOf, outerRows, outer, tagged, text, order, named, judged, genuine, weighed, opening, commandRefusal}
 use Rattle.command.specs.Blocks.{tagBlocks, chained, commandBlocks}
 use Rattle.command.specs.Heard.{noOrder, answering, heard, heardRoom}

@@ -7,8 +7,8 @@ use Rattle.capability.specs.Enciphered.{Enciphered, underKey, past}
 use Rattle.capability.specs.Chain.{rightBlocks}
 use Rattle.state.specs.declared.Rights.{Rights}
 use Rattle.view.specs.declared.View.{View}
-use Rattle.packet.specs.declared.fields.Order.{Order}
-use Rattle.packet.specs.Command.{additional, vectorOf, encrypted}
+use Rattle.fields.specs.declared.Order.{Order}
+use Rattle.fields.specs.Command.{additional, vectorOf, encrypted}
 use Rattle.command.specs.Command.{ciphOf, outer, tagged, text, order, named, judged}
 
 -- the blocks of the tag: the subkey's, and its own

@@ -18,8 +18,8 @@ use Rattle.view.specs.Phases.{isOpen, fresh}
 use Rattle.view.specs.declared.View.{View}
 use Rattle.view.specs.declared.Right.{Right}
 use Rattle.view.specs.Right.{rightOf}
-use Rattle.packet.specs.declared.fields.Order.{Order}
-use Rattle.packet.specs.Command.{clientOf, openZeros, additional, vectorOf, tagIn, encrypted, orderOf}
+use Rattle.fields.specs.declared.Order.{Order}
+use Rattle.fields.specs.Command.{clientOf, openZeros, additional, vectorOf, tagIn, encrypted, orderOf}
 use Rattle.packet.specs.Sealed.{rightTag, textOf}
 
 -- AES under the connection's key

@@ -7,8 +7,8 @@ use Rattle.octets.specs.Checks.{pick, isZero}
 use Rattle.capability.specs.Calls.{written}
 use Rattle.state.specs.declared.Rights.{Rights}
 use Rattle.view.specs.declared.View.{View}
-use Rattle.packet.specs.declared.fields.Order.{Order}
-use Rattle.packet.specs.Command.{payloadOf}
+use Rattle.fields.specs.declared.Order.{Order}
+use Rattle.fields.specs.Command.{payloadOf}
 use Rattle.command.specs.Command.{ciphOf, text, order, commandRefusal}
 use Rattle.command.specs.Blocks.{commandBlocks}
 use Rattle.command.specs.declared.Heard.{Heard}

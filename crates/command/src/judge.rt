@@ -5,7 +5,7 @@ ghost use Prim.Native.Nat.{_-_, _≤_};
 ghost use lib.Dec.{eqb};
 ghost use lib.ListN.{length};
 ghost use Rattle.octets.specs.Checks.{isZero, _then_};
-ghost use Rattle.packet.specs.Command.{clientOf};
+ghost use Rattle.fields.specs.Command.{clientOf};
 ghost use Rattle.command.specs.Command.{outer, inner, rightful};
 
 const UNSOUND: u8 = 39;
@@ -72,7 +72,7 @@ fn of_group(group: u16, asked: u16) -> bool
 }
 
 // What the text says against the packet and the connection: 9 to 14.
-fn inner(v: view::View, client: u16, n: usize, o: packet::Order) -> u8
+fn inner(v: view::View, client: u16, n: usize, o: fields::Order) -> u8
     ensures { λ r. ⌜ r ≡ inner v client n o ⌝ }
 {
     if o.client != client {
@@ -102,7 +102,7 @@ fn inner(v: view::View, client: u16, n: usize, o: packet::Order) -> u8
 }
 
 // What the text says against the right that it names: 15 to 18.
-fn rightful(f: view::Right, o: packet::Order) -> u8
+fn rightful(f: view::Right, o: fields::Order) -> u8
     ensures { λ r. ⌜ r ≡ rightful f o ⌝ }
 {
     if view::no_such(o.capability, f.entries) {
@@ -122,7 +122,7 @@ fn rightful(f: view::Right, o: packet::Order) -> u8
 }
 
 // The text's checks but the last: 9 to 18. f is the right that the order names.
-pub(crate) fn judged(v: view::View, f: view::Right, packet: &[u8], o: packet::Order) -> u8
+pub(crate) fn judged(v: view::View, f: view::Right, packet: &[u8], o: fields::Order) -> u8
     requires { ⌜ 96 ≤ length (now packet) ⌝ }
     ensures { λ r. ⌜ r ≡ (inner v (clientOf (now (packet .entry))) (length (now (packet .entry)) - 96) o then rightful f o) ⌝ }
 {

@@ -15,7 +15,7 @@ ghost use Rattle.gcm.specs.Gcm.{counter};
 ghost use Rattle.ghash.specs.Ghash.{blocksIn};
 ghost use Rattle.capability.specs.Chain.{rightBlocks};
 ghost use Rattle.capability.specs.Calls.{written};
-ghost use Rattle.packet.specs.Command.{vectorOf, additional, tagIn, encrypted, payloadOf};
+ghost use Rattle.fields.specs.Command.{vectorOf, additional, tagIn, encrypted, payloadOf};
 ghost use Rattle.packet.specs.Sealed.{rightTag};
 ghost use Rattle.command.specs.Command.{text, order, genuine, weighed};
 ghost use Rattle.command.specs.Blocks.{chained};
@@ -28,13 +28,13 @@ const SECRET_WRONG: u8 = 19;
 pub struct Heard {
     pub number: u8,
     pub blocks: usize,
-    pub order: packet::Order,
+    pub order: fields::Order,
 }
 
-fn no_order() -> packet::Order
+fn no_order() -> fields::Order
     ensures { λ r. ⌜ r ≡ noOrder ⌝ }
 {
-    packet::Order {
+    fields::Order {
         client: 0,
         sequence: 0,
         group: 0,
@@ -60,7 +60,7 @@ fn refused(number: u8, blocks: usize) -> Heard
 fn tag_right(p: &aes::Prepared, packet: &[u8]) -> bool
     ensures { λ r. ⌜ r ≡ rightTag (under (now (p .entry))) (additional (now (packet .entry))) (vectorOf (now (packet .entry))) (tagIn (now (packet .entry))) (encrypted (now (packet .entry))) ⌝ }
 {
-    let iv = packet::vector_at(packet, 4);
+    let iv = fields::vector_at(packet, 4);
     let tag = octets::sixteen(packet, 16);
     packet::authentic(p, octets::part(packet, 0, 4), iv, tag, octets::part(packet, 32, packet.len()))
 }
@@ -71,12 +71,12 @@ fn head(p: &aes::Prepared, packet: &[u8]) -> [u8; 64]
     ensures { λ r. ⌜ r ≡ gctr (under (now (p .entry))) (counter (vectorOf (now (packet .entry))) 2) (part (now (packet .entry)) 32 64) .bytes ⌝ }
 {
     let mut out = [0u8; 64];
-    packet::decipher(p, packet::vector_at(packet, 4), 2, octets::part(packet, 32, 64), &mut out);
+    packet::decipher(p, fields::vector_at(packet, 4), 2, octets::part(packet, 32, 64), &mut out);
     out
 }
 
 // The last check, and the payload at the start of the room where it passes. `count` is what is counted before it.
-fn finish(p: &aes::Prepared, f: view::Right, o: packet::Order, packet: &[u8], room: &mut [u8], count: usize) -> Heard
+fn finish(p: &aes::Prepared, f: view::Right, o: fields::Order, packet: &[u8], room: &mut [u8], count: usize) -> Heard
     requires { ⌜ (96 ≤ length (now packet)) × (count ≤ 1100) ⌝ }
     ensures { λ r. ⌜ (r ≡ answering (genuine f o) (count + length (rightBlocks (f .secret) (o .capability) (o .words))) o)
         × (now (room .exit) ≡ written (genuine f o) (gctr (under (now (p .entry))) (counter (vectorOf (now (packet .entry))) 6) (drop 96 (now (packet .entry))) .bytes) (now (room .entry))) ⌝ }
@@ -90,7 +90,7 @@ fn finish(p: &aes::Prepared, f: view::Right, o: packet::Order, packet: &[u8], ro
     if !octets::equal(&secret, &right) {
         return refused(SECRET_WRONG, all);
     }
-    packet::decipher(p, packet::vector_at(packet, 4), 6, &packet[96..], room);
+    packet::decipher(p, fields::vector_at(packet, 4), 6, &packet[96..], room);
     Heard { number: 0, blocks: all, order: o }
 }
 
@@ -103,7 +103,7 @@ fn entered(p: &aes::Prepared, v: view::View, rights: state::Rights, packet: &[u8
         × (now (room .exit) ≡ written (weighed v rights (now (packet .entry)) (order (under (now (p .entry))) (now (packet .entry))))
             (payloadOf (text (under (now (p .entry))) (now (packet .entry)) .bytes)) (now (room .entry))) ⌝ }
 {
-    let o = packet::order_of(head(p, packet));
+    let o = fields::order_of(head(p, packet));
     let f = view::right_at(rights, o.interface, o.capability);
     let count = gcm::blocks_in(packet.len() - 32) + 2;
     let number = judge::judged(v, f, packet, o);

@@ -7,7 +7,7 @@ use Rattle.octets.proofs.CheckLaws.{passed-of, then-passed}
 use Rattle.state.specs.declared.Rights.{Rights}
 use Rattle.view.specs.declared.View.{View}
 use Rattle.view.proofs.CountedLaws.{such}
-use Rattle.packet.specs.Command.{clientOf}
+use Rattle.fields.specs.Command.{clientOf}
 use Rattle.command.specs.Command.{outerRows, outer, commandRefusal, opening}
 use Rattle.command.specs.Heard.{heard}
 

@@ -15,7 +15,7 @@ use Rattle.view.specs.Counted.{noSuch}
 use Rattle.view.specs.Phases.{isOpen, owes}
 use Rattle.view.specs.declared.View.{View}
 use Rattle.view.proofs.CountedLaws.{such}
-use Rattle.packet.specs.Reply.{replyVector, replyLead}
+use Rattle.fields.specs.Reply.{replyVector, replyLead}
 use Rattle.packet.specs.Sealed.{sealedPacket, sealedBlocks}
 use Rattle.packet.proofs.SealedLaws.{packet-length}
 use Rattle.gateway.specs.Reply.{replyRefusal, replyText, replyBytes, replyBlocks}

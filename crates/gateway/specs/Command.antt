@@ -6,7 +6,7 @@ use Rattle.state.specs.declared.Rights.{Rights}
 use Rattle.state.specs.declared.Records.{Records}
 use Rattle.state.specs.Records.{accepted}
 use Rattle.view.specs.View.{see}
-use Rattle.packet.specs.Command.{clientOf}
+use Rattle.fields.specs.Command.{clientOf}
 use Rattle.command.specs.declared.Heard.{Heard}
 use Rattle.command.specs.Heard.{heard, heardRoom}
 use Rattle.gateway.specs.Common.{moved}

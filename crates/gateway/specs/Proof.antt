@@ -19,7 +19,7 @@ use Rattle.view.specs.Counted.{noSuch}
 use Rattle.view.specs.Phases.{isWaiting}
 use Rattle.view.specs.View.{see}
 use Rattle.view.specs.declared.View.{View}
-use Rattle.packet.specs.Command.{openLead}
+use Rattle.fields.specs.Command.{openLead}
 use Rattle.gateway.specs.Common.{moved}
 use Rattle.gateway.specs.declared.proving.Proved.{Proved}
 

@@ -17,7 +17,7 @@ use Rattle.view.specs.Counted.{noSuch}
 use Rattle.view.specs.Phases.{isOpen, owes}
 use Rattle.view.specs.View.{see}
 use Rattle.view.specs.declared.View.{View}
-use Rattle.packet.specs.Reply.{replyVector, replyLead}
+use Rattle.fields.specs.Reply.{replyVector, replyLead}
 use Rattle.packet.specs.Sealed.{sealedPacket}
 use Rattle.gateway.specs.Common.{moved}
 use Rattle.gateway.specs.declared.replying.Replied.{Replied}

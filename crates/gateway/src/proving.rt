@@ -11,7 +11,7 @@ ghost use Rattle.octets.specs.Room.{placed};
 ghost use Rattle.aes.specs.Cipher.{cipher};
 ghost use Rattle.state.specs.Flat.{withRecord};
 ghost use Rattle.state.specs.Records.{proved};
-ghost use Rattle.packet.specs.Command.{openLead};
+ghost use Rattle.fields.specs.Command.{openLead};
 ghost use Rattle.gateway.specs.Proof.{second, third, proofRefusal, proving, proofRoom};
 
 const PROOF_LENGTH: u8 = 25;
@@ -58,7 +58,7 @@ fn grant(records: state::Records, host: u16, proof: &[u8], room: &mut [u8]) -> P
         × (now (room .exit) ≡ placed (now (room .entry)) 0 (openLead host ++ third (now (proof .entry)))) ⌝ }
 {
     let key = aes::encrypt(octets::sixteen(proof, 0), octets::sixteen(proof, 16));
-    let lead = packet::open_lead(host);
+    let lead = fields::open_lead(host);
     octets::put(room, 0, &lead);
     octets::put(room, 4, octets::part(proof, 16, 16));
     let at = host as usize - 1;

@@ -59,8 +59,8 @@ pub fn reply(rights: state::Rights, records: state::Records, host: u16, sequence
     }
     let held = v.held;
     let key = held.key;
-    let lead = packet::reply_lead(sequence, payload.len() as u16);
-    let blocks = packet::seal(key, &[], packet::reply_vector(sequence), &lead, payload, room);
+    let lead = fields::reply_lead(sequence, payload.len() as u16);
+    let blocks = packet::seal(key, &[], fields::reply_vector(sequence), &lead, payload, room);
     let next = state::with_record(records, host as usize - 1, held.reply());
     Replied {
         answer: capability::Answer { number: 0, blocks: blocks },

@@ -1,3 +1,1 @@
-pub mod Command
-pub mod Reply
 pub mod Sealed

@@ -6,7 +6,7 @@ use Prim.Native.Nat.{ℕ}
 use borrow.Author.Tests.{eqb-false}
 use lib.ListN.{length}
 use Rattle.state.specs.declared.State.{State}
-use Rattle.packet.specs.Command.{clientOf}
+use Rattle.fields.specs.Command.{clientOf}
 use Rattle.promises.specs.Step.{Call, request, proof, command, reply, close, revoke, next}
 use Rattle.promises.specs.Told.{Machine, about, mine, keep, keepIf, told, heard, Named, AllNamed}
 use Rattle.promises.specs.Facts.{Opens}

@@ -28,9 +28,9 @@ use Rattle.book.specs.States.{loaded, loadedWith}
 use Rattle.view.specs.View.{see}
 use Rattle.view.specs.declared.View.{View}
 use Rattle.view.specs.declared.Right.{Right}
-use Rattle.packet.specs.declared.fields.Order.{Order}
-use Rattle.packet.specs.Command.{clientOf, orderOf, commandLead, openLead}
-use Rattle.packet.specs.Reply.{replyVector, replyLead}
+use Rattle.fields.specs.declared.Order.{Order}
+use Rattle.fields.specs.Command.{clientOf, orderOf, commandLead, openLead}
+use Rattle.fields.specs.Reply.{replyVector, replyLead}
 use Rattle.packet.specs.Sealed.{rightTag}
 use Rattle.command.specs.Command.{ciphOf, outerRows, outer, order, innerRows, inner, named, rightRows, rightful, genuine, judged, weighed}
 use Rattle.command.specs.Command.{tagged, opening, commandRefusal}

@@ -15,7 +15,7 @@ use Rattle.octets.specs.Room.{part, numberAt, filled, atStart}
 use Rattle.octets.proofs.RoomLaws.{filled-there, placed-start}
 use Rattle.aes.specs.Cipher.{cipher}
 use Rattle.capability.specs.Bytes.{idOf, wordAt, secretOf}
-use Rattle.packet.specs.Command.{orderOf, payloadOf, commandLead, openLead}
+use Rattle.fields.specs.Command.{orderOf, payloadOf, commandLead, openLead}
 use Rattle.packet.proofs.SealedLaws.{packet-length}
 use Rattle.command.specs.Command.{tagged, text, order}
 use Rattle.client.specs.Seal.{sealRefusal, sealing, sealRoom, askText, commandBytes}

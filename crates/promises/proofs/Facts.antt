@@ -37,7 +37,7 @@ use Rattle.view.specs.declared.View.{View}
 use Rattle.view.specs.declared.Right.{Right}
 use Rattle.view.proofs.CountedLaws.{such, place-there}
 use Rattle.view.proofs.ViewLaws.{commands-there, entries-there, owner-there, word-there, secret-there}
-use Rattle.packet.specs.Command.{clientOf, additional, vectorOf, tagIn, encrypted, orderOf}
+use Rattle.fields.specs.Command.{clientOf, additional, vectorOf, tagIn, encrypted, orderOf}
 use Rattle.packet.specs.Sealed.{rightTag, textOf}
 use Rattle.packet.proofs.CommandLaws.{text-length}
 use Rattle.command.specs.Command.{ciphOf, outer, tagged, text, order, inner, named, rightful, genuine, judged, opening, weighed, commandRefusal}

@@ -10,7 +10,7 @@ use Rattle.octets.specs.Little.{number, octets}
 use Rattle.octets.specs.Same.{same}
 use Rattle.book.specs.States.{loaded}
 use Rattle.state.specs.declared.State.{State}
-use Rattle.packet.specs.Command.{openLead}
+use Rattle.fields.specs.Command.{openLead}
 use Rattle.packet.specs.Sealed.{sealedPacket}
 use Rattle.client.specs.Seal.{commandBytes}
 use Rattle.promises.specs.Dairies.{north, south, thePanel, theFiller, panel, greeting, fresh, third, room, hello, proven, narrower, fills}

@@ -19,7 +19,7 @@ use Rattle.state.specs.Flat.{recordOf, withRecord, Sized, SizedRecord}
 use Rattle.state.proofs.RecordLaws.{stored, others, sized-withRecord}
 use Rattle.view.specs.View.{see}
 use Rattle.view.proofs.ViewLaws.{sized-held}
-use Rattle.packet.specs.Command.{clientOf}
+use Rattle.fields.specs.Command.{clientOf}
 use Rattle.gateway.specs.Close.{closing, closeRefusal}
 use Rattle.gateway.specs.Request.{found, asked, requestRefusal, requesting}
 use Rattle.gateway.specs.Proof.{second, third, proofRefusal, proving}

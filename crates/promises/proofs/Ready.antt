@@ -17,9 +17,9 @@ use Rattle.aes.specs.Cipher.{cipher}
 use Rattle.capability.specs.Bytes.{idOf, wordAt, fourAt, secretOf}
 use Rattle.state.specs.declared.State.{State}
 use Rattle.state.specs.Sound.{SoundFacts}
-use Rattle.packet.specs.Command.{orderOf, openLead, commandLead}
+use Rattle.fields.specs.Command.{orderOf, openLead, commandLead}
 use Rattle.packet.specs.Sealed.{sealedPacket}
-use Rattle.packet.specs.declared.fields.Order.{Order}
+use Rattle.fields.specs.declared.Order.{Order}
 use Rattle.command.specs.Command.{tagged}
 use Rattle.client.specs.Seal.{askText, commandBytes}
 use Rattle.client.specs.declared.seal.Ask.{Ask}

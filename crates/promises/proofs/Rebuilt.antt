@@ -31,8 +31,8 @@ use Rattle.view.specs.Phases.{fresh}
 use Rattle.view.specs.View.{see}
 use Rattle.view.specs.declared.View.{View}
 use Rattle.view.proofs.ViewLaws.{held-there}
-use Rattle.packet.specs.Command.{clientOf, openZeros, additional, vectorOf, tagIn, encrypted, orderOf, payloadOf, commandLead, openLead}
-use Rattle.packet.specs.declared.fields.Order.{Order}
+use Rattle.fields.specs.Command.{clientOf, openZeros, additional, vectorOf, tagIn, encrypted, orderOf, payloadOf, commandLead, openLead}
+use Rattle.fields.specs.declared.Order.{Order}
 use Rattle.packet.specs.Sealed.{rightTag, sealedPacket}
 use Rattle.packet.proofs.CommandLaws.{text-length}
 use Rattle.command.specs.Command.{ciphOf, outerRows, outer, tagged, text, order, innerRows, inner, judged, opening, weighed, commandRefusal}

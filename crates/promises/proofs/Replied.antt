@@ -24,7 +24,7 @@ use Rattle.state.proofs.RecordLaws.{sized-recordOf}
 use Rattle.view.specs.Counted.{noSuch}
 use Rattle.view.specs.View.{see}
 use Rattle.view.proofs.ViewLaws.{held-there}
-use Rattle.packet.specs.Reply.{replyVector, replyLead}
+use Rattle.fields.specs.Reply.{replyVector, replyLead}
 use Rattle.packet.specs.Sealed.{rightTag}
 use Rattle.packet.proofs.SealedLaws.{packet-length}
 use Rattle.gateway.specs.Reply.{replyRefusal, replyText, replyBytes, replying, replyRoom}

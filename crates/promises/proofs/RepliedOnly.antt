@@ -22,7 +22,7 @@ use Rattle.octets.proofs.LittleLaws.{bytes-octets}
 use Rattle.octets.proofs.SameLaws.{same-true}
 use Rattle.aes.specs.Cipher.{cipher}
 use Rattle.aes.proofs.CipherLaws.{cipher-length}
-use Rattle.packet.specs.Reply.{replyVector, replyLead}
+use Rattle.fields.specs.Reply.{replyVector, replyLead}
 use Rattle.packet.specs.Sealed.{rightTag}
 use Rattle.packet.proofs.CommandLaws.{text-length}
 use Rattle.gateway.specs.Reply.{replyText, replyBytes}

@@ -2,6 +2,7 @@
 use mathlib.Core.Path.{_≡_}
 use Rattle.capability.proofs as Capability
 use Rattle.view.proofs as View
+use Rattle.fields.proofs as Fields
 use Rattle.packet.proofs as Packet
 use Rattle.command.proofs as Command
 use Rattle.gateway.proofs as Gateway
@@ -39,24 +40,24 @@ see-settles κs a x y d e = one
 pub right-at-settles : SettlesResult View.right_at.Reads.Learnt
 right-at-settles κs a x y d e = one
 
--- ---- packet
+-- ---- fields and packet
 
-pub vector-at-settles : SettlesResult Packet.vector_at.Reads.Learnt
+pub vector-at-settles : SettlesResult Fields.vector_at.Reads.Learnt
 vector-at-settles κs a x y d e = one
 
-pub order-of-settles : SettlesResult Packet.order_of.Reads.Learnt
+pub order-of-settles : SettlesResult Fields.order_of.Reads.Learnt
 order-of-settles κs a x y d e = one
 
-pub command-lead-settles : SettlesResult Packet.command_lead.Reads.Learnt
+pub command-lead-settles : SettlesResult Fields.command_lead.Reads.Learnt
 command-lead-settles κs a x y d e = one
 
-pub open-lead-settles : SettlesResult Packet.open_lead.Reads.Learnt
+pub open-lead-settles : SettlesResult Fields.open_lead.Reads.Learnt
 open-lead-settles κs a x y d e = one
 
-pub reply-vector-settles : SettlesResult Packet.reply_vector.Reads.Learnt
+pub reply-vector-settles : SettlesResult Fields.reply_vector.Reads.Learnt
 reply-vector-settles κs a x y d e = one
 
-pub reply-lead-settles : SettlesResult Packet.reply_lead.Reads.Learnt
+pub reply-lead-settles : SettlesResult Fields.reply_lead.Reads.Learnt
 reply-lead-settles κs a x y d e = one
 
 pub packet-authentic-settles : SettlesResult Packet.authentic.Reads.Learnt

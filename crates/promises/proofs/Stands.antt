@@ -11,7 +11,7 @@ use Rattle.state.specs.declared.State.{State}
 use Rattle.state.specs.declared.transitions.Record.{Record}
 use Rattle.state.specs.Flat.{recordOf, withRecord, SizedRecord}
 use Rattle.state.proofs.RecordLaws.{sized-recordOf, stored, others}
-use Rattle.packet.specs.Command.{orderOf}
+use Rattle.fields.specs.Command.{orderOf}
 use Rattle.command.specs.Command.{ciphOf, text, order, commandRefusal}
 use Rattle.command.specs.Heard.{heard, heardRoom}
 use Rattle.gateway.specs.Command.{commandHeard, commanding, commandRoom}

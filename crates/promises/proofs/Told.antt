@@ -20,8 +20,8 @@ use Rattle.state.proofs.SoundLaws.{sound-facts}
 use Rattle.view.specs.View.{see}
 use Rattle.view.specs.declared.View.{View}
 use Rattle.view.proofs.CountedLaws.{such}
-use Rattle.packet.specs.declared.fields.Order.{Order}
-use Rattle.packet.specs.Command.{clientOf, orderOf}
+use Rattle.fields.specs.declared.Order.{Order}
+use Rattle.fields.specs.Command.{clientOf, orderOf}
 use Rattle.command.specs.Command.{ciphOf, order, named, innerRows, inner, rightful, genuine, judged, weighed, opening, commandRefusal}
 use Rattle.command.specs.Blocks.{commandBlocks}
 use Rattle.command.specs.Heard.{heard, heardRoom}

@@ -23,8 +23,8 @@ use Rattle.capability.proofs.ChainLaws.{length-step}
 use Rattle.state.specs.declared.State.{State}
 use Rattle.view.specs.View.{see}
 use Rattle.view.specs.declared.View.{View}
-use Rattle.packet.specs.Command.{clientOf, vectorOf, commandLead, openLead}
-use Rattle.packet.specs.Reply.{replyVector, replyLead}
+use Rattle.fields.specs.Command.{clientOf, vectorOf, commandLead, openLead}
+use Rattle.fields.specs.Reply.{replyVector, replyLead}
 use Rattle.packet.specs.Sealed.{textOf}
 use Rattle.packet.proofs.SealedLaws.{packet-length}
 use Rattle.packet.proofs.CommandLaws.{text-length}

@@ -10,7 +10,7 @@ use Rattle.state.specs.declared.State.{State}
 use Rattle.state.specs.declared.transitions.Phase.the-variants.{Open}
 use Rattle.state.specs.declared.transitions.Record.{Record}
 use Rattle.state.specs.Flat.{recordOf}
-use Rattle.packet.specs.Command.{orderOf}
+use Rattle.fields.specs.Command.{orderOf}
 use Rattle.promises.specs.Places.{clientShown, numberSaid, payloadSaid, recordAt}
 use Rattle.promises.specs.Step.{command, answer, next}
 

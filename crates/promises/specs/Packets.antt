@@ -8,8 +8,8 @@ use Rattle.capability.specs.Bytes.{idOf, fourAt, secretOf, capability}
 use Rattle.capability.specs.declared.Answer.{Answer}
 use Rattle.state.specs.declared.State.{State}
 use Rattle.state.specs.Flat.{recordOf}
-use Rattle.packet.specs.Command.{clientOf}
-use Rattle.packet.specs.declared.fields.Order.{Order}
+use Rattle.fields.specs.Command.{clientOf}
+use Rattle.fields.specs.declared.Order.{Order}
 use Rattle.gateway.specs.Reply.{replyBytes}
 use Rattle.client.specs.Seal.{commandBytes, sealing, sealRoom}
 use Rattle.client.specs.declared.seal.Ask.{Ask}

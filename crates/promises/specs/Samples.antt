@@ -16,7 +16,7 @@ use Rattle.grammar.specs.Checks.{faultOf}
 use Rattle.grammar.specs.declared.Fault.{Fault}
 use Rattle.view.specs.Phases.{fresh}
 use Rattle.view.specs.declared.Right.{Right}
-use Rattle.packet.specs.declared.fields.Order.{Order}
+use Rattle.fields.specs.declared.Order.{Order}
 use Rattle.command.specs.Command.{rightful}
 use Rattle.client.specs.OpenReply.{opened}
 use Rattle.promises.specs.Counts.{wordsIn}

@@ -8,7 +8,7 @@ use Rattle.capability.specs.declared.Answer as C
 use Rattle.state.specs.declared.State.{State}
 use Rattle.state.specs.declared.Rights.{Rights}
 use Rattle.state.specs.declared.Records.{Records}
-use Rattle.packet.specs.declared.fields.Order.{Order}
+use Rattle.fields.specs.declared.Order.{Order}
 use Rattle.command.specs.Heard.{noOrder}
 use Rattle.gateway.specs.Close.{closing}
 use Rattle.gateway.specs.Revoke.{revoking}

@@ -4,7 +4,7 @@ use mathlib.Core.Logic.{_≢_}
 use mathlib.Core.List.{List, [], _∷_}
 use Prim.Native.Nat.{ℕ}
 use Rattle.state.specs.declared.State.{State}
-use Rattle.packet.specs.Command.{clientOf}
+use Rattle.fields.specs.Command.{clientOf}
 use Rattle.gateway.specs.Request.{found, asked}
 use Rattle.promises.specs.Step.{Call, request, proof, command, reply, close, revoke}
 

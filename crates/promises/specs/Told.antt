@@ -10,7 +10,7 @@ use Rattle.octets.specs.Same.{same}
 use Rattle.state.specs.declared.State.{State}
 use Rattle.state.specs.declared.transitions.Record.{Record}
 use Rattle.state.specs.Flat.{recordOf}
-use Rattle.packet.specs.Command.{clientOf}
+use Rattle.fields.specs.Command.{clientOf}
 use Rattle.gateway.specs.Request.{asked}
 use Rattle.promises.specs.Step.{Call, request, proof, command, reply, close, revoke, Said, answer, next}
 use Rattle.promises.specs.Stands.{Names}

@@ -17,7 +17,7 @@ pub(crate) fn connection(op: u8, s: state::State) -> state::State {
 }
 
 // A command's inner fields, but words and secret.
-fn fields(o: packet::Order) {
+fn fields(o: fields::Order) {
     output::field(o.client as u64);
     output::field(o.sequence as u64);
     output::field(o.group as u64);

@@ -13,8 +13,8 @@ use Rattle.ghash.specs.Ghash.{blocksIn}
 use Rattle.capability.specs.Chain.{rightBlocks}
 use Rattle.capability.specs.Calls.{written}
 use Rattle.view.specs.declared.Right.{Right}
-use Rattle.packet.specs.declared.fields.Order.{Order}
-use Rattle.packet.specs.Command.{clientOf, orderOf, payloadOf}
+use Rattle.fields.specs.declared.Order.{Order}
+use Rattle.fields.specs.Command.{clientOf, orderOf, payloadOf}
 use Rattle.command.specs.Command.{text, order, inner, rightful, named, judged, genuine}
 use Rattle.command.specs.Heard.{noOrder, answering}
 use Rattle.command.specs.declared.Heard.{Heard}

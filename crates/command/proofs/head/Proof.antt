@@ -12,7 +12,7 @@ use Rattle.aes.proofs.CipherLaws.{under-length}
 use Rattle.gcm.specs.Gctr.{gctr}
 use Rattle.gcm.specs.Gcm.{counter}
 use Rattle.gcm.proofs.GctrLaws.{gctr-length}
-use Rattle.packet.specs.Command.{vectorOf}
+use Rattle.fields.specs.Command.{vectorOf}
 use Rattle.command.proofs.head.Statement.{statement}
 use Rattle.command.proofs.head.Tie as tie
 

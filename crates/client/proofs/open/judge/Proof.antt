@@ -5,7 +5,7 @@ use borrow.Author.Tests.{not-true, not-false, lt-ltb, le-ltb, eq-eqb}
 use Rattle.octets.specs.Room.{part}
 use Rattle.octets.specs.Same.{same}
 use Rattle.octets.proofs.CheckLaws.{tests}
-use Rattle.packet.specs.Reply.{replyVector}
+use Rattle.fields.specs.Reply.{replyVector}
 use Rattle.client.specs.OpenReply.{replyOuter}
 use Rattle.client.proofs.open.judge.Statement.{statement}
 use Rattle.client.proofs.open.judge.Tie as tie

@@ -7,7 +7,7 @@ use lib.ListN.{length, drop, length-drop}
 use Rattle.octets.specs.Room.{placed}
 use Rattle.octets.proofs.RoomLaws.{part-rest}
 use Rattle.capability.specs.Bytes.{idOf}
-use Rattle.packet.specs.Command.{commandLead}
+use Rattle.fields.specs.Command.{commandLead}
 use Rattle.client.proofs.SealLaws.{head-laid}
 use borrow.Author.Needs.{needs}
 use Rattle.client.proofs.seal.head.Statement.{statement}

@@ -8,7 +8,7 @@ use Rattle.octets.specs.Little.{octets}
 use Rattle.octets.specs.Room.{part}
 use Rattle.octets.proofs.RoomLaws.{filled-there, length-part}
 use Rattle.octets.proofs.PlacedLaws.{placed-next}
-use Rattle.packet.specs.Command.{openLead}
+use Rattle.fields.specs.Command.{openLead}
 use Rattle.gateway.proofs.proving.grant.Statement.{statement}
 use Rattle.gateway.proofs.proving.grant.Tie as tie
 

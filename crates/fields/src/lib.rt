@@ -1,8 +1,9 @@
-// Fields of packets, read and laid out.
+// The fields of command and reply packets, read and laid out (document 01, "Command packet"; 000, figure 2). Server and client share these. Every
+// function takes all inputs.
 ghost use mathlib.Core.Path.{_≡_};
 ghost use Rattle.octets.specs.Room.{filled};
-ghost use Rattle.packet.specs.Command.{orderOf, commandLead, openLead};
-ghost use Rattle.packet.specs.Reply.{replyVector, replyLead};
+ghost use Rattle.fields.specs.Command.{orderOf, commandLead, openLead};
+ghost use Rattle.fields.specs.Reply.{replyVector, replyLead};
 
 // The inner fields of a command, in the order of document 01 but for the payload.
 pub struct Order {

@@ -1,15 +1,15 @@
--- `packet::fields::order_of` meets its contract: field by field.
+-- `fields::order_of` meets its contract: field by field.
 use mathlib.Core.Path.{_≡_}
 use mathlib.Core.List.{List}
 use Prim.Native.Nat.{ℕ, _+_, _*_}
 use Rattle.octets.specs.Room.{numberAt, filled}
 use Rattle.capability.specs.Bytes.{fourAt}
-use Rattle.packet.specs.declared.fields.Order.{Order}
-use Rattle.packet.specs.Command.{orderOf}
-use Rattle.packet.proofs.CommandLaws.{three-at}
+use Rattle.fields.specs.declared.Order.{Order}
+use Rattle.fields.specs.Command.{orderOf}
+use Rattle.fields.proofs.OrderLaws.{three-at}
 use borrow.Author.Needs.{needs}
-use Rattle.packet.proofs.fields.order_of.Statement.{statement}
-use Rattle.packet.proofs.fields.order_of.Tie as tie
+use Rattle.fields.proofs.order_of.Statement.{statement}
+use Rattle.fields.proofs.order_of.Tie as tie
 
 -- an order is what a text says, where each field is
 fields : (t : List ℕ) (client sequence group interface capability length low high command : ℕ) (words secret : List ℕ) →

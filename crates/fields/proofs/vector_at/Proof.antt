@@ -1,11 +1,11 @@
--- `packet::fields::vector_at` meets its contract: the part is placed in a room of twelve zeros.
+-- `fields::vector_at` meets its contract: the part is placed in a room of twelve zeros.
 use mathlib.Core.Path.{ap, _∙_}
 use lib.ListN.{replicate}
 use Rattle.octets.specs.Room.{placed}
 use Rattle.octets.proofs.RoomLaws.{filled-placed}
 use borrow.Author.Needs.{needs}
-use Rattle.packet.proofs.fields.vector_at.Statement.{statement}
-use Rattle.packet.proofs.fields.vector_at.Tie as tie
+use Rattle.fields.proofs.vector_at.Statement.{statement}
+use Rattle.fields.proofs.vector_at.Tie as tie
 
 returns : tie.Need-returns
 returns c =

@@ -7,7 +7,7 @@ use lib.ListN.{drop}
 use Rattle.octets.specs.Little.{octets}
 use Rattle.octets.specs.Room.{part, numberAt, filled}
 use Rattle.capability.specs.Bytes.{fourAt}
-use Rattle.packet.specs.declared.fields.Order.{Order}
+use Rattle.fields.specs.declared.Order.{Order}
 
 -- the open part of a packet
 abbrev pub clientOf : List ℕ → ℕ

@@ -1,9 +1,9 @@
--- `packet::fields::reply_vector` meets its contract: the array is written out.
+-- `fields::reply_vector` meets its contract: the array is written out.
 use Rattle.octets.specs.Little.{octets}
-use Rattle.packet.specs.Reply.{replyVector}
+use Rattle.fields.specs.Reply.{replyVector}
 use borrow.Author.Needs.{needs}
-use Rattle.packet.proofs.fields.reply_vector.Statement.{statement}
-use Rattle.packet.proofs.fields.reply_vector.Tie as tie
+use Rattle.fields.proofs.reply_vector.Statement.{statement}
+use Rattle.fields.proofs.reply_vector.Tie as tie
 
 returns : tie.Need-returns
 unfolding replyVector octets

@@ -1,9 +1,9 @@
--- `packet::fields::reply_lead` meets its contract: the array is written out.
+-- `fields::reply_lead` meets its contract: the array is written out.
 use Rattle.octets.specs.Little.{octets}
-use Rattle.packet.specs.Reply.{replyLead}
+use Rattle.fields.specs.Reply.{replyLead}
 use borrow.Author.Needs.{needs}
-use Rattle.packet.proofs.fields.reply_lead.Statement.{statement}
-use Rattle.packet.proofs.fields.reply_lead.Tie as tie
+use Rattle.fields.proofs.reply_lead.Statement.{statement}
+use Rattle.fields.proofs.reply_lead.Tie as tie
 
 returns : tie.Need-returns
 unfolding replyLead octets

@@ -1,13 +1,13 @@
--- `packet::fields::command_lead` meets its contract: the array is written out.
+-- `fields::command_lead` meets its contract: the array is written out.
 use mathlib.Core.Path.{_≡_}
 use mathlib.Core.List.{List, [], _∷_}
 use Prim.Native.Nat.{ℕ}
 use lib.ListN.{getD}
 use Rattle.octets.specs.Little.{octets}
-use Rattle.packet.specs.Command.{commandLead}
+use Rattle.fields.specs.Command.{commandLead}
 use borrow.Author.Needs.{needs}
-use Rattle.packet.proofs.fields.command_lead.Statement.{statement}
-use Rattle.packet.proofs.fields.command_lead.Tie as tie
+use Rattle.fields.proofs.command_lead.Statement.{statement}
+use Rattle.fields.proofs.command_lead.Tie as tie
 
 -- the bytes of six numbers, the command and three zeros are the lead
 written : (client sequence group interface capability length command : ℕ) (a b c d e f : List ℕ) →

@@ -1,9 +1,9 @@
--- `packet::fields::open_lead` meets its contract: the array is written out.
+-- `fields::open_lead` meets its contract: the array is written out.
 use Rattle.octets.specs.Little.{octets}
-use Rattle.packet.specs.Command.{openLead}
+use Rattle.fields.specs.Command.{openLead}
 use borrow.Author.Needs.{needs}
-use Rattle.packet.proofs.fields.open_lead.Statement.{statement}
-use Rattle.packet.proofs.fields.open_lead.Tie as tie
+use Rattle.fields.proofs.open_lead.Statement.{statement}
+use Rattle.fields.proofs.open_lead.Tie as tie
 
 returns : tie.Need-returns
 unfolding openLead octets
