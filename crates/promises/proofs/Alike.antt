@@ -8,7 +8,7 @@ use Rattle.view.specs.View.{see}
 use Rattle.view.proofs.CountedLaws.{place-there}
 use Rattle.promises.specs.Step.{Call, next}
 use Rattle.promises.specs.Told.{Machine}
-use Rattle.promises.specs.Alike.{SoundTyped, Host, SameHosts, Alike}
+use Rattle.promises.specs.Alike.{SoundTyped, IsHost, SameHosts, Alike}
 use Rattle.promises.proofs.Hosts.{hosts-refl, hosts-sym, hosts-trans}
 use Rattle.promises.proofs.Contents.{interface-refl, interface-sym, interface-trans}
 use Rattle.promises.proofs.Own.{sized-kept}
@@ -24,14 +24,14 @@ sound-still s c h = record {
 }
 
 module _ {A : Machine} where
-  pub host-same : {s t : State} → Host A s → SameHosts s t → Host A t
+  pub host-same : {s t : State} → IsHost A s → SameHosts s t → IsHost A t
   host-same h k = record {
     number = rw (← k .count) (h .number);
     name = sym (k .name (A .number - 1) (omega arith)) ∙ h .name;
   }
 
   module _ {chosen : ℕ → Bool} where
-    pub alike-refl : {s : State} → SoundTyped s → Host A s → Alike A chosen s s
+    pub alike-refl : {s : State} → SoundTyped s → IsHost A s → Alike A chosen s s
     alike-refl h k = record {
       first = h;
       second = h;

@@ -11,7 +11,7 @@ use Rattle.promises.specs.Step.{Call, request, proof, command, reply, cl
 use Rattle.promises.specs.Told.{Machine, about, mine, keep, keepIf, told, heard, Named, AllNamed}
 use Rattle.promises.specs.Facts.{Opens}
 use Rattle.promises.specs.Places.{recordAt}
-use Rattle.promises.specs.Alike.{SoundTyped, Host, Alike}
+use Rattle.promises.specs.Alike.{SoundTyped, IsHost, Alike}
 use Rattle.promises.proofs.Alike.{host-same, alike-refl, alike-sym, alike-trans, see-same}
 use Rattle.promises.proofs.Facts.{text-same, opens-zero, zero-opens}
 use Rattle.promises.proofs.Told.{answer-same}
@@ -28,7 +28,7 @@ Noninterference =
 -- "Calls left out count as other calls, so A's answers are also those of a box that heard only A and those revocations."
 abbrev pub HeardAlone : Type 0
 HeardAlone =
-    (A : Machine) (chosen : ℕ → Bool) (s : State) (cs : List Call) → SoundTyped s → Host A s → AllNamed A chosen s cs
+    (A : Machine) (chosen : ℕ → Bool) (s : State) (cs : List Call) → SoundTyped s → IsHost A s → AllNamed A chosen s cs
     → heard A s cs ≡ heard A s (keep (mine A chosen) cs)
 
 module _ (A : Machine) (chosen : ℕ → Bool) where

@@ -23,7 +23,7 @@ use Rattle.promises.specs.Places.{recordAt}
 use Rattle.promises.specs.Stands.{Names}
 use Rattle.promises.specs.Typed.{Typed}
 use Rattle.promises.specs.Told.{Machine, mine, keep, keepIf, heard, AllNamed}
-use Rattle.promises.specs.Alike.{SoundTyped, Host, SameHosts, SameInterface, Alike}
+use Rattle.promises.specs.Alike.{SoundTyped, IsHost, SameHosts, SameInterface, Alike}
 use Rattle.promises.specs.Books.{interfaceIn, InBook, SameContents, AlikeBooks}
 use Rattle.promises.proofs.Alone.{noninterference}
 use Rattle.promises.proofs.Ends.{ends-alike}
@@ -130,7 +130,7 @@ module _ (b : List ℕ) (good : loaded b .number ≡ 0) where
 -- ---- two loads
 
 module _ (A : Machine) (chosen : ℕ → Bool) (x y : List ℕ) (a : InBook A x) (h : AlikeBooks chosen x y) where
-  host-loaded : Host A (loaded x .state)
+  host-loaded : IsHost A (loaded x .state)
   host-loaded =
       let count = hosts-there x (h .first) in record {
         number = rw count (a .number);

@@ -11,7 +11,6 @@ pub mod Blocks
 pub mod ReachedLaws
 pub mod Written
 pub mod ReachedCalls
-pub mod Samples
 pub mod One
 pub mod SettledGround
 pub mod SettledBook
@@ -33,6 +32,7 @@ pub mod RepliedOnly
 pub mod Built
 pub mod Ready
 pub mod SealedReady
+pub mod Samples
 pub mod Rebuilt
 pub mod Contents
 pub mod Alike

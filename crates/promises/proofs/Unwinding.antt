@@ -20,7 +20,7 @@ use Rattle.promises.specs.Step.{Call, request, proof, command, reply, cl
 use Rattle.promises.specs.Stands.{Names}
 use Rattle.promises.specs.Subject.{subject}
 use Rattle.promises.specs.Told.{Machine, mine, Named}
-use Rattle.promises.specs.Alike.{SoundTyped, Host, SameInterface, Alike}
+use Rattle.promises.specs.Alike.{SoundTyped, IsHost, SameInterface, Alike}
 use Rattle.promises.proofs.Hosts.{hosts-kept, interfaces-kept, hosts-sym, hosts-trans}
 use Rattle.promises.proofs.Contents.{interface-refl, word-elsewhere, word-both}
 use Rattle.promises.proofs.Alike.{sound-still, host-same}
@@ -39,7 +39,7 @@ found-name r names name i (suc k) m e = by-same (same (nameAt r names i) name) r
   by-same true q f later = let here : m ≡ i = omega arith in rw here q
   by-same false q f later = later f
 
-elsewhere : (A : Machine) (chosen : ℕ → Bool) (s : State) → Host A s → (c : Call) → mine A chosen c ≡ false → subject s c ≢ A .number
+elsewhere : (A : Machine) (chosen : ℕ → Bool) (s : State) → IsHost A s → (c : Call) → mine A chosen c ≡ false → subject s c ≢ A .number
 unfolding found
 elsewhere A chosen s h (request p f room) m e =
     same-false (asked p) (A .name) m
@@ -92,7 +92,7 @@ module _ (A : Machine) (chosen : ℕ → Bool) where
 
   -- ---- the two
 
-  pub respect : (s : State) → SoundTyped s → Host A s → (c : Call) → mine A chosen c ≡ false → Alike A chosen s (next s c)
+  pub respect : (s : State) → SoundTyped s → IsHost A s → (c : Call) → mine A chosen c ≡ false → Alike A chosen s (next s c)
   respect s h k c m = record {
     first = h;
     second = sound-still s c h;

@@ -19,7 +19,7 @@ pub record SoundTyped (s : State) : Type 0 where
   pub records : Sized (s .records)
 
 -- A is one of the hosts
-pub record Host (A : Machine) (s : State) : Type 0 where
+pub record IsHost (A : Machine) (s : State) : Type 0 where
   pub number : Names (A .number) (s .rights .hosts)
   pub name : nameAt (s .rights) (s .names) (A .number - 1) ≡ A .name
 
@@ -43,7 +43,7 @@ pub record SameInterface (r q : Rights) (i : ℕ) : Type 0 where
 pub record Alike (A : Machine) (chosen : ℕ → Bool) (s t : State) : Type 0 where
   pub first : SoundTyped s
   pub second : SoundTyped t
-  pub host : Host A s
+  pub host : IsHost A s
   pub hosts : SameHosts s t
   pub interfaces : s .rights .interfaces ≡ t .rights .interfaces
   pub contents : (i : ℕ) → chosen i ≡ true → Names i (s .rights .interfaces) → SameInterface (s .rights) (t .rights) i

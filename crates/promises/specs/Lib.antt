@@ -11,12 +11,12 @@ pub mod Facts
 pub mod CallFacts
 pub mod Text
 pub mod Counts
-pub mod Samples
 pub mod Subject
 pub mod Answered
 pub mod Packets
 pub mod Reached
 pub mod Ready
+pub mod Samples
 pub mod Left
 pub mod Handshake
 pub mod Boxes

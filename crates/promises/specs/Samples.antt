@@ -8,6 +8,7 @@ use Rattle.octets.specs.Checks.{pick}
 use Rattle.octets.specs.Little.{octets}
 use Rattle.capability.specs.Chain.{allOnes, chainBlocks}
 use Rattle.capability.specs.Rights.{permitted}
+use Rattle.capability.specs.Bytes.{idOf, fourAt}
 use Rattle.capability.specs.Calls.{issued, narrowRefusal, narrowing}
 use Rattle.state.specs.declared.State.{State}
 use Rattle.state.specs.declared.transitions.Phase.the-variants.{Open}
@@ -15,35 +16,17 @@ use Rattle.grammar.specs.Faults.{fault, none}
 use Rattle.grammar.specs.Checks.{faultOf}
 use Rattle.grammar.specs.declared.Fault.{Fault}
 use Rattle.view.specs.Phases.{fresh}
-use Rattle.view.specs.declared.Right.{Right}
-use Rattle.fields.specs.declared.Order.{Order}
-use Rattle.command.specs.Command.{rightful}
 use Rattle.client.specs.OpenReply.{opened}
 use Rattle.promises.specs.Counts.{wordsIn}
+use Rattle.promises.specs.Places.{wordOf}
+use Rattle.promises.specs.Ready.{Parts, packetOf, WellFormed, Connects, Finds, InRange}
 use Rattle.promises.specs.Step.{command, reply, answer}
+use Rattle.promises.specs.Typed.{Typed}
 
 -- the commands that are permitted, of the n from c on
 unfoldable pub permittedFrom : ℕ → ℕ → ℕ → List ℕ → List ℕ
 permittedFrom c zero entry words = []
 permittedFrom c (suc n) entry words = pick (permitted c entry words) (c ∷ []) [] ++ permittedFrom (suc c) n entry words
-
--- the right of an interface's only entry, anyone's, with that word; and an order for command c of it, with those words
-abbrev pub rightWith : ℕ → Right
-rightWith entry = record { commands = 64; entries = 1; owner = 0; word = entry; secret = replicate 16 0 }
-
-abbrev pub orderWith : ℕ → List ℕ → Order
-orderWith c words = record {
-  client = 1;
-  sequence = 1;
-  group = 0;
-  interface = 1;
-  capability = 1;
-  length = 0;
-  command = c;
-  zeros = 0;
-  words = words;
-  secret = replicate 16 0;
-}
 
 -- the numbers of narrowings one after the other, from capability c on
 unfoldable pub narrowNumbers : List ℕ → List ℕ → List ℕ → List ℕ
@@ -60,7 +43,7 @@ bookOf name =
 pub data Sample : Type 0 where
   -- of all command IDs, a byte, just these are permitted
   permits : (entry : ℕ) (words commands : List ℕ) → Sample
-  -- the checks of the right that an order names, 15 to 18, answer so by what its words permit
+  -- a command that is well built but for what its words permit is answered so
   gives : (entry : ℕ) (words : List ℕ) (command number : ℕ) → Sample
   -- so many words are in the chain
   chains : (words : List ℕ) (count : ℕ) → Sample
@@ -78,7 +61,10 @@ pub data Sample : Type 0 where
 
 abbrev pub Holds : Sample → Type 0
 Holds (permits entry words commands) = permittedFrom 0 256 entry words ≡ commands
-Holds (gives entry words c n) = rightful (rightWith entry) (orderWith c words) ≡ n
+Holds (gives entry words c n) =
+    (s : State) (b : Parts) (room : List ℕ) → Typed s → WellFormed b → Connects s b (length room) → Finds s b → InRange s b
+    → wordOf (s .rights) (b .ask .interface) (idOf (b .capability)) ≡ entry → fourAt (b .capability) 2 ≡ words → b .ask .command ≡ c
+    → answer s (command (packetOf s b) room) .number ≡ n
 Holds (chains words n) = (secret : List ℕ) → length (chainBlocks secret words) ≡ n
 Holds (isFresh last n so) = (owed : Bool) → fresh (Open last owed) n ≡ so
 Holds (allStale last) = (owed : Bool) (n : ℕ) → n < 65536 → fresh (Open last owed) n ≡ false
