@@ -1,0 +1,2 @@
+pub mod Unraw
+pub mod Parts
