@@ -28,7 +28,7 @@ use Rattle.gateway.specs.Revoke.{revoking, revokeRefusal}
 use Rattle.gateway.specs.Request.{found, asked, formRefusal, requestRefusal, requesting}
 use Rattle.gateway.specs.Proof.{proofRefusal, proving}
 use Rattle.gateway.specs.Reply.{replyRefusal, replying}
-use Rattle.promises.specs.CallFacts.{Known, IsOpen, callFacts}
+use Rattle.promises.specs.CallFacts.{Known, callFacts}
 use Rattle.promises.specs.Rules.{Rule, Hold, Gives, slice}
 use Rattle.promises.specs.Step.{Call, request, proof, command, reply, close, revoke, answer}
 use Rattle.promises.specs.Typed.{Typed}
@@ -128,7 +128,7 @@ module _ (s : State) where
           such h (s .rights .hosts) t4,
           rw (place-there h (s .rights .hosts) 32 t4) (
               row (slice 3 3 facts) 6 _ _ (λ q. rw (q .phase)) λ t6. (
-                (let o = open-phase _ (not-false _ t6) in record { last = o .0; owed = o .1; phase = o .2 }),
+                (let o = open-phase _ (not-false _ t6) in record { last = o .0; owed = o .1; phase = o .2; holds = tt }),
                 row (slice 4 2 facts) 29 _ _ (λ q. rw (q, eq-eqb n n refl)) λ t29. (
                   owing-phase _ n (not-false _ t29),
                   row (slice 5 1 facts) 30 _ _ (λ q. le-ltb 16384 (length pay) q) λ t30. (

@@ -80,10 +80,10 @@ module _ (s : State) (p : List ℕ) where
   seen h = rw (place-there (numberAt p 0 2) (s .rights .hosts) 32 (named-such _ _ h))
 
   -- an open phase, and one with a number that the last one isn't above
-  opened : isOpen (recordAt s (numberAt p 0 2) .phase) ≡ true → OpenWith s p (λ last. Unit)
+  opened : isOpen (recordAt s (numberAt p 0 2) .phase) ≡ true → OpenWith s (numberAt p 0 2) (λ last. Unit)
   opened o = let phase = open-phase (recordAt s (numberAt p 0 2) .phase) o in record { last = phase .0; owed = phase .1; phase = phase .2; holds = tt }
 
-  newer : (n : ℕ) → OpenWith s p (λ last. Unit) → fresh (recordAt s (numberAt p 0 2) .phase) n ≡ true → OpenWith s p (λ last. last < n)
+  newer : (n : ℕ) → OpenWith s (numberAt p 0 2) (λ last. Unit) → fresh (recordAt s (numberAt p 0 2) .phase) n ≡ true → OpenWith s (numberAt p 0 2) (λ last. last < n)
   newer n o f = record {
     last = o .last;
     owed = o .owed;
@@ -176,7 +176,7 @@ module _ (s : State) (p : List ℕ) (long : 96 ≤ length p) where
 
 -- ---- what the text says
 
-module _ (s : State) (p t : List ℕ) (long : 64 ≤ length t) (o : OpenWith s p (λ last. Unit)) where
+module _ (s : State) (p t : List ℕ) (long : 64 ≤ length t) (o : OpenWith s (numberAt p 0 2) (λ last. Unit)) where
   inner-gives : Gives (textFacts 9 6 s p t) (inner (viewed s p) (numberAt p 0 2) (length p - 96) (orderOf t))
   unfolding inner orderOf number
   inner-gives =

@@ -1,14 +1,14 @@
 -- Demand 3: two sound states that look alike to a machine.
 use mathlib.Core.Path.{_≡_}
 use mathlib.Core.Bool.{Bool, true}
-use Prim.Native.Nat.{ℕ, _+_, _*_, _-_, _<_}
+use Prim.Native.Nat.{ℕ, _-_, _<_}
 use lib.ListN.{length, getD}
-use Rattle.octets.specs.Room.{part}
 use Rattle.state.specs.declared.State.{State}
 use Rattle.state.specs.declared.Rights.{Rights}
-use Rattle.state.specs.Flat.{recordOf, Sized}
+use Rattle.state.specs.Flat.{Sized}
 use Rattle.state.specs.Sound.{soundRights}
 use Rattle.gateway.specs.Request.{nameAt}
+use Rattle.promises.specs.Places.{recordAt, commandsOf, entriesOf, masterOf, ownerOf, wordOf}
 use Rattle.promises.specs.Stands.{Names}
 use Rattle.promises.specs.Told.{Machine}
 
@@ -31,13 +31,11 @@ pub record SameHosts (s t : State) : Type 0 where
 
 -- interface i has the same contents: command count, entry count and master secret, and of each entry its group and its present word
 pub record SameInterface (r q : Rights) (i : ℕ) : Type 0 where
-  pub commands : getD (r .commands) (i - 1) 0 ≡ getD (q .commands) (i - 1) 0
-  pub entries : getD (r .entries) (i - 1) 0 ≡ getD (q .entries) (i - 1) 0
-  pub secret : part (r .secrets) ((i - 1) * 16) 16 ≡ part (q .secrets) ((i - 1) * 16) 16
-  pub owner : (e : ℕ) → Names e (getD (r .entries) (i - 1) 0)
-      → getD (r .owners) ((i - 1) * 16 + (e - 1)) 0 ≡ getD (q .owners) ((i - 1) * 16 + (e - 1)) 0
-  pub word : (e : ℕ) → Names e (getD (r .entries) (i - 1) 0)
-      → getD (r .words) ((i - 1) * 16 + (e - 1)) 0 ≡ getD (q .words) ((i - 1) * 16 + (e - 1)) 0
+  pub commands : commandsOf r i ≡ commandsOf q i
+  pub entries : entriesOf r i ≡ entriesOf q i
+  pub secret : masterOf r i ≡ masterOf q i
+  pub owner : (e : ℕ) → Names e (entriesOf r i) → ownerOf r i e ≡ ownerOf q i e
+  pub word : (e : ℕ) → Names e (entriesOf r i) → wordOf r i e ≡ wordOf q i e
 
 -- the same hosts, as many interfaces, the same contents of the chosen ones, and the same record of A
 pub record Alike (A : Machine) (chosen : ℕ → Bool) (s t : State) : Type 0 where
@@ -47,4 +45,4 @@ pub record Alike (A : Machine) (chosen : ℕ → Bool) (s t : State) : Type 0 wh
   pub hosts : SameHosts s t
   pub interfaces : s .rights .interfaces ≡ t .rights .interfaces
   pub contents : (i : ℕ) → chosen i ≡ true → Names i (s .rights .interfaces) → SameInterface (s .rights) (t .rights) i
-  pub held : recordOf (s .records) (A .number - 1) ≡ recordOf (t .records) (A .number - 1)
+  pub held : recordAt s (A .number) ≡ recordAt t (A .number)

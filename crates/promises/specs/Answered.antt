@@ -10,8 +10,8 @@ use Rattle.state.specs.declared.State.{State}
 use Rattle.state.specs.declared.transitions.Phase.the-variants.{Open}
 use Rattle.state.specs.declared.transitions.Record.{Record}
 use Rattle.state.specs.Flat.{recordOf}
-use Rattle.fields.specs.Command.{orderOf}
-use Rattle.promises.specs.Places.{clientShown, numberSaid, payloadSaid, recordAt}
+use Rattle.fields.specs.Command.{clientOf, orderOf, payloadOf}
+use Rattle.promises.specs.Places.{numberSaid, recordAt}
 use Rattle.promises.specs.Step.{command, answer, next}
 
 -- an open record with n as its last number, and a reply owed for it
@@ -22,6 +22,6 @@ owing r n = record { phase = Open n true; challenge = r .challenge; key = r .key
 -- number; every other record is as it was
 pub record Answered (s : State) (p room t : List ℕ) : Type 0 where
   pub order : answer s (command p room) .order ≡ orderOf t
-  pub payload : answer s (command p room) .room ≡ atStart (payloadSaid t) room
-  pub client : recordAt (next s (command p room)) (clientShown p) ≡ owing (recordAt s (clientShown p)) (numberSaid t)
-  pub others : (j : ℕ) → clientShown p - 1 ≢ j → recordOf (next s (command p room) .records) j ≡ recordOf (s .records) j
+  pub payload : answer s (command p room) .room ≡ atStart (payloadOf t) room
+  pub client : recordAt (next s (command p room)) (clientOf p) ≡ owing (recordAt s (clientOf p)) (numberSaid t)
+  pub others : (j : ℕ) → clientOf p - 1 ≢ j → recordOf (next s (command p room) .records) j ≡ recordOf (s .records) j

@@ -1,7 +1,7 @@
 -- Document 01, "Order.": for every server call the facts that make it acceptable, in the document's order, each with the number that is given where it
 -- fails. Those of a command are in `Facts`.
 use mathlib.Core.Path.{_≡_}
-use mathlib.Core.Bool.{Bool, true}
+use mathlib.Core.Bool.{true}
 use mathlib.Core.List.{List, [], _∷_}
 use Prim.Native.Nat.{ℕ, _+_, _-_, _≤_, _<_}
 use lib.ListN.{length, drop}
@@ -10,7 +10,7 @@ use Rattle.state.specs.declared.State.{State}
 use Rattle.state.specs.declared.transitions.Phase.the-variants.{Waiting, Open}
 use Rattle.state.specs.Sound.{SoundFacts}
 use Rattle.gateway.specs.Request.{nameAt}
-use Rattle.promises.specs.Facts.{commandFacts}
+use Rattle.promises.specs.Facts.{OpenWith, commandFacts}
 use Rattle.promises.specs.Places.{recordAt, entriesOf}
 use Rattle.promises.specs.Rules.{Rule, _unless_}
 use Rattle.promises.specs.Stands.{Names}
@@ -21,12 +21,6 @@ pub record Known (s : State) (name : List ℕ) : Type 0 where
   pub place : ℕ
   pub low : place < s .rights .hosts
   pub named : nameAt (s .rights) (s .names) place ≡ name
-
--- the connection of host h is open
-pub record IsOpen (s : State) (h : ℕ) : Type 0 where
-  pub last : ℕ
-  pub owed : Bool
-  pub phase : recordAt s h .phase ≡ Open last owed
 
 abbrev pub callFacts : State → Call → List Rule
 -- "Request: 39, 28, 20, 21, 22, 23, 7."
@@ -54,7 +48,7 @@ callFacts s (command p room) = commandFacts s p (length room)
 callFacts s (reply h n pay room) =
     39 unless SoundFacts (s .rights)
     ∷ 4 unless Names h (s .rights .hosts)
-    ∷ 6 unless IsOpen s h
+    ∷ 6 unless OpenWith s h (λ last. Unit)
     ∷ 29 unless (recordAt s h .phase ≡ Open n true)
     ∷ 30 unless (length pay ≤ 16384)
     ∷ 7 unless (32 + length pay ≤ length room)

@@ -8,30 +8,31 @@ use Rattle.aes.specs.Cipher.{cipher}
 use Rattle.gcm.specs.Gcm.{plain, open'}
 use Rattle.capability.specs.Chain.{rightSecret}
 use Rattle.packet.specs.Sealed.{textOf}
+use Rattle.fields.specs.Command.{additional, clientOf, encrypted}
 use Rattle.state.specs.declared.State.{State}
 use Rattle.state.specs.declared.transitions.Phase.the-variants.{Open}
 use Rattle.state.specs.Sound.{SoundFacts}
 use Rattle.promises.specs.Rules.{Rule, _unless_, Hold, slice}
-use Rattle.promises.specs.Places.{clientShown, zerosShown, vectorShown, tagShown, dataShown, encryptedPart}
+use Rattle.promises.specs.Places.{zerosShown, vectorShown, tagShown}
 use Rattle.promises.specs.Places.{clientSaid, numberSaid, groupSaid, interfaceSaid, entrySaid, lengthSaid, commandSaid, zerosSaid, wordsSaid}
 use Rattle.promises.specs.Places.{secretSaid, groupOf, recordAt, commandsOf, entriesOf, masterOf, ownerOf, wordOf}
 use Rattle.promises.specs.Stands.{Names, OfGroup, Permitted}
 
 -- what a packet's encrypted part says under the key of the client that its open part names (SP 800-38D, GCTR)
 abbrev pub textIn : State → List ℕ → List ℕ
-textIn s p = textOf (cipher (recordAt s (clientShown p) .key)) (vectorShown p) (encryptedPart p) .bytes
+textIn s p = textOf (cipher (recordAt s (clientOf p) .key)) (vectorShown p) (encrypted p) .bytes
 
 -- it is authentic under that key (SP 800-38D), and says that text
 pub record Authentic (s : State) (p : List ℕ) : Type 0 where
   pub blocks : List (List ℕ)
-  pub opens : open' (cipher (recordAt s (clientShown p) .key)) (vectorShown p) (dataShown p) (encryptedPart p) (tagShown p)
+  pub opens : open' (cipher (recordAt s (clientOf p) .key)) (vectorShown p) (additional p) (encrypted p) (tagShown p)
       ≡ plain (textIn s p) blocks
 
--- the client's connection is open, and P holds of its last accepted number
-pub record OpenWith (s : State) (p : List ℕ) (P : ℕ → Type 0) : Type 0 where
+-- the connection of host h is open, and P holds of its last accepted number
+pub record OpenWith (s : State) (h : ℕ) (P : ℕ → Type 0) : Type 0 where
   pub last : ℕ
   pub owed : Bool
-  pub phase : recordAt s (clientShown p) .phase ≡ Open last owed
+  pub phase : recordAt s h .phase ≡ Open last owed
   pub holds : P last
 
 -- of the packet p and a lent room of that length; of its text t; and of the interface i, the entry e, the command c and the four reduction words that
@@ -42,16 +43,16 @@ factsOf s p room t i e c words =
     ∷ 1 unless (96 ≤ length p)
     ∷ 2 unless (length p ≤ 16480)
     ∷ 3 unless (zerosShown p ≡ 0 ∷ 0 ∷ [])
-    ∷ 4 unless Names (clientShown p) (s .rights .hosts)
+    ∷ 4 unless Names (clientOf p) (s .rights .hosts)
     ∷ 5 unless (getD p 4 0 < 128)
-    ∷ 6 unless OpenWith s p (λ last. Unit)
+    ∷ 6 unless OpenWith s (clientOf p) (λ last. Unit)
     ∷ 7 unless (length p ≤ room + 96)
     ∷ 8 unless Authentic s p
-    ∷ 9 unless (clientSaid t ≡ clientShown p)
+    ∷ 9 unless (clientSaid t ≡ clientOf p)
     ∷ 10 unless (zerosSaid t ≡ 0 ∷ 0 ∷ 0 ∷ [])
     ∷ 11 unless (lengthSaid t ≡ length p - 96)
-    ∷ 12 unless OpenWith s p (λ last. last < numberSaid t)
-    ∷ 13 unless OfGroup (groupSaid t) (groupOf (s .rights) (clientShown p))
+    ∷ 12 unless OpenWith s (clientOf p) (λ last. last < numberSaid t)
+    ∷ 13 unless OfGroup (groupSaid t) (groupOf (s .rights) (clientOf p))
     ∷ 14 unless Names i (s .rights .interfaces)
     ∷ 15 unless Names e (entriesOf (s .rights) i)
     ∷ 16 unless OfGroup (ownerOf (s .rights) i e) (groupSaid t)

@@ -2,7 +2,7 @@
 -- records and the words.
 use mathlib.Core.Path.{_≡_}
 use mathlib.Core.Logic.{_≢_}
-use mathlib.Core.Bool.{true, false}
+use mathlib.Core.Bool.{false}
 use mathlib.Core.List.{List}
 use Prim.Native.Nat.{ℕ, _≤_}
 use lib.Bits.{bitAnd}
@@ -13,6 +13,7 @@ use Rattle.state.specs.declared.transitions.Record.{Record}
 use Rattle.state.specs.declared.transitions.Phase.the-variants.{Idle, Waiting, Open}
 use Rattle.state.specs.Flat.{withWords}
 use Rattle.gateway.specs.Proof.{second, third}
+use Rattle.promises.specs.Answered.{owing}
 use Rattle.promises.specs.Facts.{textIn}
 use Rattle.promises.specs.Places.{numberSaid, recordAt, entryAt}
 use Rattle.promises.specs.Step.{Call, request, proof, command, reply, close, revoke, next}
@@ -37,7 +38,7 @@ leaves s (request p f room) r = record { phase = Waiting; challenge = f; key = z
 -- "The record becomes open with last number 0 and no reply owed. Key: the AES-128 encryption of block challenge 3 under key challenge 2."
 leaves s (proof h p room) r = record { phase = Open 0 false; challenge = zeros; key = cipher (second p) (third p) }
 -- its number is the last accepted one, and a reply is owed for it
-leaves s (command p room) r = record { phase = Open (numberSaid (textIn s p)) true; challenge = r .challenge; key = r .key }
+leaves s (command p room) r = owing r (numberSaid (textIn s p))
 -- "One reply for the last accepted command, once"
 leaves s (reply h n pay room) r = record { phase = Open n false; challenge = r .challenge; key = r .key }
 -- "Close makes a record idle from any state."

@@ -7,17 +7,17 @@ use Rattle.octets.specs.Room.{part}
 use Rattle.capability.specs.Bytes.{idOf, fourAt, secretOf, capability}
 use Rattle.capability.specs.declared.Answer.{Answer}
 use Rattle.state.specs.declared.State.{State}
-use Rattle.state.specs.Flat.{recordOf}
 use Rattle.fields.specs.Command.{clientOf}
 use Rattle.fields.specs.declared.Order.{Order}
 use Rattle.gateway.specs.Reply.{replyBytes}
 use Rattle.client.specs.Seal.{commandBytes, sealing, sealRoom}
 use Rattle.client.specs.declared.seal.Ask.{Ask}
+use Rattle.promises.specs.Places.{recordAt}
 use Rattle.promises.specs.Step.{Said}
 
 -- the key in the record of host h
 abbrev pub keyOf : State → ℕ → List ℕ
-keyOf s h = recordOf (s .records) (h - 1) .key
+keyOf s h = recordAt s h .key
 
 -- the packet of the reply for number n to host h
 abbrev pub sent : State → ℕ → ℕ → List ℕ → List ℕ

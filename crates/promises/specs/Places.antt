@@ -2,17 +2,15 @@
 -- count from 1, places in arrays from 0.
 use mathlib.Core.List.{List, [], _∷_}
 use Prim.Native.Nat.{ℕ, _+_, _*_, _-_}
-use lib.ListN.{getD, drop}
+use lib.ListN.{getD}
 use Rattle.octets.specs.Room.{part, numberAt}
 use Rattle.state.specs.declared.State.{State}
 use Rattle.state.specs.declared.Rights.{Rights}
 use Rattle.state.specs.declared.transitions.Record.{Record}
 use Rattle.state.specs.Flat.{recordOf}
 
--- "Open part, 32 bytes: client ID (2), zeros (2), initial vector (12), tag (16)."
-abbrev pub clientShown : List ℕ → ℕ
-clientShown p = numberAt p 0 2
-
+-- "Open part, 32 bytes: client ID (2), zeros (2), initial vector (12), tag (16)." The client ID, the additional data, the encrypted part and a text's
+-- payload have their names in `fields` (`clientOf`, `additional`, `encrypted`, `payloadOf`).
 abbrev pub zerosShown : List ℕ → List ℕ
 zerosShown p = part p 2 2
 
@@ -21,13 +19,6 @@ vectorShown p = part p 4 12
 
 abbrev pub tagShown : List ℕ → List ℕ
 tagShown p = part p 16 16
-
--- "Additional authenticated data: the first four bytes."
-abbrev pub dataShown : List ℕ → List ℕ
-dataShown p = part p 0 4
-
-abbrev pub encryptedPart : List ℕ → List ℕ
-encryptedPart p = drop 32 p
 
 -- "Encrypted part: client ID, sequence number, group, interface, capability ID, payload length (2 each), command ID (1), zeros (3), four reduction
 -- words (8 each), secret (16), payload."
@@ -60,9 +51,6 @@ wordsSaid t = numberAt t 16 8 ∷ numberAt t 24 8 ∷ numberAt t 32 8 ∷ number
 
 abbrev pub secretSaid : List ℕ → List ℕ
 secretSaid t = part t 48 16
-
-abbrev pub payloadSaid : List ℕ → List ℕ
-payloadSaid t = drop 64 t
 
 -- of host h: its group and its record
 abbrev pub groupOf : Rights → ℕ → ℕ

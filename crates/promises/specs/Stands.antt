@@ -9,10 +9,11 @@ use lib.ListN.{length, getD}
 use Rattle.aes.specs.Cipher.{cipher}
 use Rattle.gcm.specs.Gcm.{plain, open'}
 use Rattle.capability.specs.Chain.{rightSecret}
+use Rattle.fields.specs.Command.{additional, clientOf, encrypted}
 use Rattle.state.specs.declared.State.{State}
 use Rattle.state.specs.declared.transitions.Phase.the-variants.{Open}
 use Rattle.state.specs.Sound.{SoundFacts}
-use Rattle.promises.specs.Places.{clientShown, zerosShown, vectorShown, tagShown, dataShown, encryptedPart}
+use Rattle.promises.specs.Places.{zerosShown, vectorShown, tagShown}
 use Rattle.promises.specs.Places.{clientSaid, numberSaid, groupSaid, interfaceSaid, entrySaid, lengthSaid, commandSaid, zerosSaid, wordsSaid}
 use Rattle.promises.specs.Places.{secretSaid, groupOf, recordAt, commandsOf, entriesOf, masterOf, ownerOf, wordOf}
 
@@ -33,24 +34,24 @@ pub record OpenPart (s : State) (p : List ℕ) : Type 0 where
   pub long : 96 ≤ length p
   pub short : length p ≤ 16480
   pub zeros : zerosShown p ≡ 0 ∷ 0 ∷ []
-  pub client : Names (clientShown p) (s .rights .hosts)
+  pub client : Names (clientOf p) (s .rights .hosts)
   pub vector : getD p 4 0 < 128
 
 -- of the client: an open connection, under which the packet is authentic and says the text t (SP 800-38D)
 pub record Connected (s : State) (p : List ℕ) (last : ℕ) (t : List ℕ) : Type 0 where
   pub owed : Bool
-  pub connected : recordAt s (clientShown p) .phase ≡ Open last owed
+  pub connected : recordAt s (clientOf p) .phase ≡ Open last owed
   pub blocks : List (List ℕ)
   pub authentic :
-      open' (cipher (recordAt s (clientShown p) .key)) (vectorShown p) (dataShown p) (encryptedPart p) (tagShown p) ≡ plain t blocks
+      open' (cipher (recordAt s (clientOf p) .key)) (vectorShown p) (additional p) (encrypted p) (tagShown p) ≡ plain t blocks
 
 -- of the text: its fields agree with the packet and the connection
 pub record Fields (s : State) (p : List ℕ) (last : ℕ) (t : List ℕ) : Type 0 where
-  pub client : clientSaid t ≡ clientShown p
+  pub client : clientSaid t ≡ clientOf p
   pub zeros : zerosSaid t ≡ 0 ∷ 0 ∷ 0 ∷ []
   pub payload : lengthSaid t ≡ length p - 96
   pub number : last < numberSaid t
-  pub group : OfGroup (groupSaid t) (groupOf (s .rights) (clientShown p))
+  pub group : OfGroup (groupSaid t) (groupOf (s .rights) (clientOf p))
 
 -- "that bit is 1 in the entry's present word and in all four words"
 abbrev pub Permitted : ℕ → ℕ → List ℕ → Type 0
