@@ -6,6 +6,7 @@ ghost use Rattle.fields.specs.Command.{orderOf, commandLead, openLead};
 ghost use Rattle.fields.specs.Reply.{replyVector, replyLead};
 
 // The inner fields of a command, in the order of document 01 but for the payload.
+#[repr(C)]
 pub struct Order {
     pub client: u16,
     pub sequence: u16,

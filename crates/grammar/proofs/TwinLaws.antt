@@ -15,6 +15,10 @@ module _ (b : List ℕ) (i : ℕ) where
   abbrev pub twin : ℕ → Bool
   twin j = eqb (kind b j) (kind b i) && same (name b j) (name b i)
 
+  -- what the code compares: its own kind and name, read once
+  pub twin-of : (j k : ℕ) (n : List ℕ) (r : Bool) → k ≡ kind b i → n ≡ name b i → r ≡ (eqb (kind b j) k && same (name b j) n) → r ≡ twin j
+  twin-of j k n r e f h = rw (e, f) at h
+
   pub found : (n j : ℕ) → j < n → twin j ≡ true → usedBelow b i n ≡ true
   unfolding usedBelow
   found zero j l e = absurd (not-suc-le-zero l)

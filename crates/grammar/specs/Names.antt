@@ -1,7 +1,7 @@
 -- Document 01, "The book": "Names: 1 to 256 bytes of letters, digits, - _ + . / and, inside only, space." Sample P10 computes from these.
 use Prim.Native.Nat.{ℕ, suc}
-use mathlib.Core.Bool.{Bool, _&&_, _||_}
-use mathlib.Core.List.{List}
+use mathlib.Core.Bool.{Bool, true, _&&_, _||_}
+use mathlib.Core.List.{List, [], _∷_}
 use lib.Dec.{ltb, eqb}
 use lib.ListN.{length, getD}
 use Rattle.octets.specs.Range.{between}
@@ -11,6 +11,10 @@ unfoldable pub letter : ℕ → Bool
 letter c =
     between 65 90 c || (between 97 122 c || (between 48 57 c
     || (eqb c 45 || (eqb c 95 || (eqb c 43 || (eqb c 46 || eqb c 47))))))
+
+unfoldable pub allLetters : List ℕ → Bool
+allLetters [] = true
+allLetters (c ∷ s) = letter c && allLetters s
 
 -- a space that is neither the first nor the last byte of s
 unfoldable pub innerSpace : List ℕ → ℕ → Bool

@@ -9,8 +9,10 @@ ghost use lib.ListN.{length};
 ghost use mathlib.Core.Bool.{_&&_};
 ghost use lib.Dec.{eqb};
 ghost use Rattle.octets.specs.Same.{same};
-ghost use Rattle.layout.specs.Layout.{kind, name};
-ghost use Rattle.grammar.specs.Names.{letter, fitting};
+ghost use Rattle.layout.specs.Layout as L;
+ghost use lib.Bits.{bitOr};
+ghost use Rattle.octets.specs.Checks.{pick};
+ghost use Rattle.grammar.specs.Names.{letter, allLetters, fitting};
 ghost use Rattle.grammar.specs.Faults.{first, each};
 ghost use Rattle.grammar.specs.Checks.{letterChecks, usedBelow};
 
@@ -18,11 +20,45 @@ ghost use Rattle.grammar.specs.Checks.{letterChecks, usedBelow};
 fn is_letter(c: u8) -> bool
     ensures { λ r. ⌜ r ≡ letter c ⌝ }
 {
-    match c {
-        b'A'..=b'Z' | b'a'..=b'z' | b'0'..=b'9' => true,
-        b'-' | b'_' | b'+' | b'.' | b'/' => true,
-        _ => false,
+    let v = c as usize;
+    if octets::between(97, 122, v) {
+        return true;
     }
+    if octets::between(65, 90, v) {
+        return true;
+    }
+    // - . / and the digits stand side by side
+    if octets::between(45, 57, v) {
+        return true;
+    }
+    if c == b'_' {
+        return true;
+    }
+    c == b'+'
+}
+
+// 0 for a letter, and not 0 for any other byte.
+fn oddness(c: u8) -> u8
+    ensures { λ r. ⌜ r ≡ pick (letter c) 0 (bitOr c 1) ⌝ }
+{
+    if is_letter(c) {
+        return 0;
+    }
+    c | 1
+}
+
+// Whether all bytes of a name are letters. What is odd in each is collected and judged once: no byte decides a branch, so that a compiler takes many at
+// a time.
+fn all_letters(name: &[u8]) -> bool
+    ensures { λ r. ⌜ r ≡ allLetters (now (name .entry)) ⌝ }
+{
+    let mut odd: u8 = 0;
+    let mut k: usize = 0;
+    while k < name.len() {
+        odd = odd | oddness(name[k]);
+        k += 1;
+    }
+    odd == 0
 }
 
 // Whether byte k of a name may stand there: a letter, or a space inside.
@@ -43,11 +79,14 @@ fn is_fitting(name: &[u8], k: usize) -> bool
     k + 1 < name.len()
 }
 
-// The letters of a name that stands at `at`.
+// The letters of a name that stands at `at`. Most names have letters alone; only another is looked through for the first byte that doesn't fit.
 pub(crate) fn judge_letters(name: &[u8], at: usize) -> Fault
     requires { ⌜ at < 2 ^ 33 ⌝ }
     ensures { λ r. ⌜ r ≡ first (each (letterChecks at (now (name .entry))) 0 (length (now (name .entry)))) ⌝ }
 {
+    if all_letters(name) {
+        return no_fault();
+    }
     let mut k: usize = 0;
     while k < name.len() {
         if !is_fitting(name, k) {
@@ -58,23 +97,44 @@ pub(crate) fn judge_letters(name: &[u8], at: usize) -> Fault
     no_fault()
 }
 
-// Whether rows j and i have the same kind and the same name.
-fn twins(book: &[u8], j: u16, i: u16) -> bool
-    ensures { λ r. ⌜ r ≡ (eqb (kind (now (book .entry)) j) (kind (now (book .entry)) i) && same (name (now (book .entry)) j) (name (now (book .entry)) i)) ⌝ }
+// Whether two names are the same. They are no secret: most pairs are told apart by their first or last eight bytes.
+fn alike(a: &[u8], b: &[u8]) -> bool
+    ensures { λ r. ⌜ r ≡ same (now (a .entry)) (now (b .entry)) ⌝ }
 {
-    if layout::kind(book, j) != layout::kind(book, i) {
+    let n = a.len();
+    if n != b.len() {
         return false;
     }
-    octets::equal(layout::name(book, j), layout::name(book, i))
+    if octets::u64_at(a, 0) != octets::u64_at(b, 0) {
+        return false;
+    }
+    if 8 <= n {
+        if octets::u64_at(a, n - 8) != octets::u64_at(b, n - 8) {
+            return false;
+        }
+    }
+    octets::equal(a, b)
+}
+
+// Whether row j has that kind and that name.
+fn twins(book: &[u8], j: u16, kind: usize, name: &[u8]) -> bool
+    ensures { λ r. ⌜ r ≡ (eqb (L.kind (now (book .entry)) j) kind && same (L.name (now (book .entry)) j) (now (name .entry))) ⌝ }
+{
+    if layout::kind(book, j) != kind {
+        return false;
+    }
+    alike(layout::name(book, j), name)
 }
 
 // Whether a row before row i has its kind and its name.
 pub(crate) fn used_before(book: &[u8], i: u16) -> bool
     ensures { λ r. ⌜ r ≡ usedBelow (now (book .entry)) i i ⌝ }
 {
+    let kind = layout::kind(book, i);
+    let name = layout::name(book, i);
     let mut j: u16 = 0;
     while j < i {
-        if twins(book, j, i) {
+        if twins(book, j, kind, name) {
             return true;
         }
         j += 1;

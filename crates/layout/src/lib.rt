@@ -98,7 +98,7 @@ pub fn name(book: &[u8], i: u16) -> &[u8]
 {
     let n = size(book, i);
     let k = lead(book, i);
-    let at = name_start(book, i);
+    let at = start(book, i) + k;
     if n < k {
         return octets::part(book, at, 0);
     }

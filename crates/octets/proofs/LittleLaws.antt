@@ -4,9 +4,10 @@ use mathlib.Core.Path.{_≡_, refl, sym, ap, _∙_}
 use mathlib.Core.List.{List, [], _∷_}
 use Prim.Native.Nat.{ℕ, zero, suc, _+_, _*_, _/_, _%_, _^_, _-_, _<_, _≤_}
 use native.Mathlib.Nat.{zero-add, suc-add, mul-comm, mul-assoc, pow-zero, pow-succ'}
+use native.Mathlib.Numerals.{add-one}
 use native.Mathlib.Omega.{arith}
 use lib.ListN.{length, getD, take, drop, drop-of-length-le}
-use lib.Seq.{drop-cons, take-nil}
+use lib.Seq.{drop-cons, drop-drop, take-nil}
 use Rattle.octets.specs.Little.{number, octets, Bytes}
 use Rattle.octets.specs.Room.{part, placed}
 use Rattle.octets.proofs.RoomLaws.{part-rest, part-placed}
@@ -63,6 +64,20 @@ number-two s at j k a b ea eb =
     let e : a ≡ number (take j (drop at s)) = rw (part-rest s at) at ea in
     let f : b ≡ number (take k (drop j (drop at s))) = rw (part-rest s at) at eb in
     rw (e, f, mul-comm) (sym (number-part-split j k (drop at s)))
+
+-- two bytes that are there
+pub number-pair : (t : List ℕ) (at : ℕ) → at + 2 ≤ length t → getD t at 0 + getD t (at + 1) 0 * 256 ≡ number (part t at 2)
+unfolding number
+number-pair t at h =
+    let a : at < length t = omega arith in
+    let b : suc at < length t = omega arith in
+    rw (add-one, drop-cons t at 0 a, drop-cons t (suc at) 0 b) (omega arith)
+
+-- two parts, one after the other
+pub number-join : (s : List ℕ) (at j k a b : ℕ) → a ≡ number (part s at j) → b ≡ number (part s (at + j) k) → a + b * 256 ^ j ≡ number (part s at (j + k))
+number-join s at j k a b ea eb =
+    let f : b ≡ number (take k (drop j (drop at s))) = rw (← drop-drop j at s) at eb in
+    rw (ea, f, mul-comm) (sym (number-part-split j k (drop at s)))
 
 -- a number that was placed is read back
 pub number-placed : (d : List ℕ) (at k n : ℕ) → at + k ≤ length d → n < 256 ^ k → number (part (placed d at (octets k n)) at k) ≡ n

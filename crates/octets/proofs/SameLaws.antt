@@ -41,13 +41,17 @@ xor-zero x y true e = eq-eqb (bitXor x y) 0 (rw (eqb-true x y e) (xor-self y))
 xor-zero x y false e =
     ne-eqb (bitXor x y) 0 (λ z. eqb-false x y e (omega (arith, xor-add-and x y, and-le-l x y, and-le-r x y)))
 
-or-zero : (c z : ℕ) (t : Bool) → eqb c 0 ≡ t → eqb (bitOr c z) 0 ≡ t && eqb z 0
+pub or-zero : (c z : ℕ) (t : Bool) → eqb c 0 ≡ t → eqb (bitOr c z) 0 ≡ t && eqb z 0
 or-zero c z true e = rw (eqb-true c 0 e, or-zero-l z)
 or-zero c z false e = ne-eqb (bitOr c z) 0 (λ q. eqb-false c 0 e (omega (arith, or-add-and c z, and-le-r c z)))
 
-and-assoc : (p q r : Bool) → p && q && r ≡ p && (q && r)
+pub and-assoc : (p q r : Bool) → p && q && r ≡ p && (q && r)
 and-assoc true q r = refl
 and-assoc false q r = refl
+
+pub and-true : (p : Bool) → p && true ≡ p
+and-true true = refl
+and-true false = refl
 
 -- one more pair of bytes
 pub same-step : (c : ℕ) (a b : List ℕ) (i : ℕ) → i < length a → i < length b
@@ -61,7 +65,4 @@ same-step c a b i ha hb =
 -- no pair is left
 pub same-end : (c : ℕ) (a b : List ℕ) (i : ℕ) → length a ≤ i → length b ≤ i → eqb c 0 && same (drop i a) (drop i b) ≡ eqb c 0
 unfolding same
-same-end c a b i ha hb = rw (drop-of-length-le a ha, drop-of-length-le b hb) (and-true (eqb c 0)) where
-  and-true : (p : Bool) → p && true ≡ p
-  and-true true = refl
-  and-true false = refl
+same-end c a b i ha hb = rw (drop-of-length-le a ha, drop-of-length-le b hb) (and-true (eqb c 0))

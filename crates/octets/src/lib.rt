@@ -3,8 +3,9 @@
 // Document 01: "All numbers of ours are little-endian." Every function takes all inputs: what is read past the end of a
 // slice counts as no byte, and what doesn't fit a room isn't placed.
 ghost use mathlib.Core.Path.{_≡_};
-ghost use Prim.Native.Nat.{_^_};
+ghost use Prim.Native.Nat.{_+_, _≤_, _^_};
 ghost use lib.Dec.{ltb};
+ghost use lib.ListN.{length};
 ghost use Rattle.octets.specs.Little.{octets};
 ghost use Rattle.octets.specs.Room.{part, numberAt, placed, sixteenAt};
 ghost use Rattle.octets.specs.Range.{between};
@@ -31,12 +32,23 @@ pub fn u8_at(s: &[u8], at: usize) -> u8
     if at < s.len() { s[at] } else { 0 }
 }
 
+// The number in two bytes that are there. One test is enough for both, and a compiler reads them at once.
+fn pair(s: &[u8], at: usize) -> u16
+    requires { ⌜ at + 2 ≤ length (now s) ⌝ }
+    ensures { λ r. ⌜ r ≡ numberAt (now (s .entry)) at 2 ⌝ }
+{
+    s[at] as u16 + s[at + 1] as u16 * 256
+}
+
 // The number in the two bytes from `at` on.
 pub fn u16_at(s: &[u8], at: usize) -> u16
     ensures { λ r. ⌜ r ≡ numberAt (now (s .entry)) at 2 ⌝ }
 {
     if s.len() < at {
         return 0;
+    }
+    if 2 <= s.len() - at {
+        return pair(s, at);
     }
     let t = &s[at..];
     u8_at(t, 0) as u16 + u8_at(t, 1) as u16 * 256
@@ -48,6 +60,9 @@ pub fn u32_at(s: &[u8], at: usize) -> u32
 {
     if s.len() < at {
         return 0;
+    }
+    if 4 <= s.len() - at {
+        return pair(s, at) as u32 + pair(s, at + 2) as u32 * 65536;
     }
     let t = &s[at..];
     u16_at(t, 0) as u32 + u16_at(t, 2) as u32 * 65536

@@ -1,0 +1,39 @@
+-- `names::all_letters` meets its contract. The invariant: nothing odd is collected and the rest are letters, just where all are.
+use borrow.Author.Needs.{needs}
+use mathlib.Core.Path.{_≡_, refl, sym, ap, _∙_}
+use mathlib.Core.Bool.{_&&_}
+use Prim.Native.Nat.{_≤_, _-_}
+use native.Mathlib.Omega.{arith}
+use lib.Bits.{bitOr}
+use lib.Dec.{eqb}
+use lib.ListN.{length, drop}
+use Rattle.grammar.specs.Names.{allLetters}
+use Rattle.grammar.proofs.LetterLaws.{letters-step, letters-end}
+use Rattle.grammar.proofs.names.all_letters.Statement.{statement}
+use Rattle.grammar.proofs.names.all_letters.Tie as tie
+
+abbrev Inv-loop : tie.InvT-loop
+Inv-loop name odd₀ k₀ odd k = (k ≤ length name) × (eqb odd 0 && allLetters (drop k name) ≡ allLetters name)
+
+abbrev μ-loop : tie.MeasureT-loop
+μ-loop name odd₀ k₀ odd k = length name - k
+
+loop-holds : tie.Need-loop-holds Inv-loop μ-loop
+loop-holds c = (omega arith, refl)
+
+loop-again : tie.Need-loop-again Inv-loop μ-loop
+loop-again c =
+    let l = c .before .before .before in
+    let s = l .before .before .args .name .now in
+    (omega arith, rw (c .oddness .ensures) (letters-step (l .loop .odd) s (l .loop .k) (omega arith)) ∙ l .loop .inv .1)
+
+returns : tie.Need-returns Inv-loop μ-loop
+returns c =
+    let l = c .before in
+    sym (letters-end (l .loop .odd) (l .before .before .args .name .now) (l .loop .k) (omega arith)) ∙ l .loop .inv .1
+
+pub all-letters-spec : {M : Type 1} → statement M
+all-letters-spec =
+    tie.close (tie.spec
+    Inv-loop μ-loop loop-holds (λ c. search needs) (λ c κs. search needs) (λ c. search needs) (λ c. search needs)
+    loop-again returns)

@@ -1,0 +1,12 @@
+pub mod Unraw
+pub mod Cells
+pub mod Parts
+pub mod Locals
+pub mod Owned
+pub mod Walk
+pub mod Opened
+pub mod Asks
+pub mod Tail
+pub mod Slices
+pub mod Bytes
+pub mod Names
