@@ -160,14 +160,15 @@ uint8_t dq_load(dq_state *state, const uint8_t *book, size_t book_length, size_t
 
 /*
  * A host asks for a connection. fresh: 16 bytes that nobody can foretell, new for each call. Accepted: challenge 1 and challenge 2 (32 bytes) in the room;
- * the host waits, and an earlier connection of its ends. *host: its number, which the firmware ties to the channel.
+ * the host waits, and an earlier connection of its ends, its key wiped. *host: its number, which the firmware ties to the channel.
  * Numbers, in order: 39, 28, 20, 21, 22, 23, 7. *blocks: 0.
  */
 uint8_t dq_request(dq_state *state, const uint8_t *request, size_t request_length, const uint8_t *fresh, size_t fresh_length,
                    uint8_t *room, size_t room_length, uint16_t *host, size_t *blocks);
 
 /*
- * Answers the proof that came on the channel of that host. Accepted: client ID, two zeros and challenge 3 (20 bytes) in the room; the connection is open.
+ * Answers the proof that came on the channel of that host. Accepted: client ID, two zeros and challenge 3 (20 bytes) in the room; the connection is open, its
+ * last number 0, and challenge 2 is wiped.
  * Numbers, in order: 39, 4, 25, 26, 27, 7. *blocks: 1 if accepted, or else 0.
  */
 uint8_t dq_proof(dq_state *state, uint16_t host, const uint8_t *proof, size_t proof_length,
