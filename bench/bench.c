@@ -11,27 +11,20 @@
  *
  * Exit status: 0, bars missed or not; 1 the peers' bytes differ, or the stack can't be measured.
  */
-#define _GNU_SOURCE
 #include <stdbool.h>
 #include <stdint.h>
 #include <stdio.h>
 #include <stdlib.h>
 #include <string.h>
-#include <time.h>
-#include <ucontext.h>
 
 #include <bearssl.h>
 #include <mbedtls/aes.h>
 #include <mbedtls/gcm.h>
 
 #include "../tests/engine.h"
+#include "measure.h"
 
-enum {
-    TEXT_MOST = 16448,
-    ROUNDS = 60,
-    SAMPLE_NS = 2500000, /* how long a cell runs in a round */
-    STACK_BYTES = 1 << 18
-};
+enum { TEXT_MOST = 16448 };
 
 static const double BLOCK_BAR = 1.5, PACKET_BAR = 1.2;
 static const size_t STACK_BAR = 1536;
@@ -49,34 +42,31 @@ static struct packet packets[3] = {{.n = 64}, {.n = 1024}, {.n = TEXT_MOST}};
 static uint8_t room[TEXT_MOST], tag[16], block_out[16];
 static bool accepted;
 
-/* Keeps a call from becoming its function's tail, and its results from being thought unused. */
-static void settle(void) {
-    __asm__ volatile("" ::: "memory");
-}
-
 /* ---- ours */
 
 static uint8_t our_key[DQ_PREPARED];
 
-static void our_block(const struct packet *p) {
-    (void)p;
+static void our_block(const void *with) {
+    (void)with;
     dq_aes128_encrypt(key, block, block_out);
     settle();
 }
 
-static void our_prepared(const struct packet *p) {
-    (void)p;
+static void our_prepared(const void *with) {
+    (void)with;
     dq_aes128_encrypt_prepared(our_key, block, block_out);
     settle();
 }
 
-static void our_seal(const struct packet *p) {
+static void our_seal(const void *with) {
+    const struct packet *p = with;
     size_t blocks;
     accepted = dq_gcm_seal(key, iv, data, sizeof data, text, p->n, room, p->n, tag,
                            &blocks) == DQ_DONE;
 }
 
-static void our_open(const struct packet *p) {
+static void our_open(const void *with) {
+    const struct packet *p = with;
     size_t blocks;
     accepted = dq_gcm_open(key, iv, data, sizeof data, p->sealed, p->n, p->tag, room, p->n,
                            &blocks) == DQ_DONE;
@@ -87,36 +77,36 @@ static void our_open(const struct packet *p) {
 static br_aes_small_cbcenc_keys small_key;
 static br_aes_big_cbcenc_keys big_key;
 
-static void small_prepared(const struct packet *p) {
+static void small_prepared(const void *with) {
     uint8_t zeros[16] = {0};
-    (void)p;
+    (void)with;
     memcpy(block_out, block, 16);
     br_aes_small_cbcenc_run(&small_key, zeros, block_out, 16);
     settle();
 }
 
-static void big_prepared(const struct packet *p) {
+static void big_prepared(const void *with) {
     uint8_t zeros[16] = {0};
-    (void)p;
+    (void)with;
     memcpy(block_out, block, 16);
     br_aes_big_cbcenc_run(&big_key, zeros, block_out, 16);
     settle();
 }
 
-static void small_block(const struct packet *p) {
+static void small_block(const void *with) {
     br_aes_small_cbcenc_keys keys;
     uint8_t zeros[16] = {0};
-    (void)p;
+    (void)with;
     br_aes_small_cbcenc_init(&keys, key, 16);
     memcpy(block_out, block, 16);
     br_aes_small_cbcenc_run(&keys, zeros, block_out, 16);
     settle();
 }
 
-static void big_block(const struct packet *p) {
+static void big_block(const void *with) {
     br_aes_big_cbcenc_keys keys;
     uint8_t zeros[16] = {0};
-    (void)p;
+    (void)with;
     br_aes_big_cbcenc_init(&keys, key, 16);
     memcpy(block_out, block, 16);
     br_aes_big_cbcenc_run(&keys, zeros, block_out, 16);
@@ -147,37 +137,37 @@ static void bear_open(const br_block_ctr_class **ctr, const struct packet *p) {
     accepted = br_gcm_check_tag(&gcm, p->tag) == 1;
 }
 
-static void small_seal(const struct packet *p) {
+static void small_seal(const void *with) {
     br_aes_small_ctr_keys keys;
     br_aes_small_ctr_init(&keys, key, 16);
-    bear_seal(&keys.vtable, p);
+    bear_seal(&keys.vtable, with);
 }
 
-static void small_open(const struct packet *p) {
+static void small_open(const void *with) {
     br_aes_small_ctr_keys keys;
     br_aes_small_ctr_init(&keys, key, 16);
-    bear_open(&keys.vtable, p);
+    bear_open(&keys.vtable, with);
 }
 
-static void big_seal(const struct packet *p) {
+static void big_seal(const void *with) {
     br_aes_big_ctr_keys keys;
     br_aes_big_ctr_init(&keys, key, 16);
-    bear_seal(&keys.vtable, p);
+    bear_seal(&keys.vtable, with);
 }
 
-static void big_open(const struct packet *p) {
+static void big_open(const void *with) {
     br_aes_big_ctr_keys keys;
     br_aes_big_ctr_init(&keys, key, 16);
-    bear_open(&keys.vtable, p);
+    bear_open(&keys.vtable, with);
 }
 
 /* ---- mbedTLS */
 
 static mbedtls_aes_context mbed_key;
 
-static void mbed_block(const struct packet *p) {
+static void mbed_block(const void *with) {
     mbedtls_aes_context aes;
-    (void)p;
+    (void)with;
     mbedtls_aes_init(&aes);
     mbedtls_aes_setkey_enc(&aes, key, 128);
     mbedtls_aes_crypt_ecb(&aes, MBEDTLS_AES_ENCRYPT, block, block_out);
@@ -185,13 +175,14 @@ static void mbed_block(const struct packet *p) {
     settle();
 }
 
-static void mbed_prepared(const struct packet *p) {
-    (void)p;
+static void mbed_prepared(const void *with) {
+    (void)with;
     mbedtls_aes_crypt_ecb(&mbed_key, MBEDTLS_AES_ENCRYPT, block, block_out);
     settle();
 }
 
-static void mbed_seal(const struct packet *p) {
+static void mbed_seal(const void *with) {
+    const struct packet *p = with;
     mbedtls_gcm_context gcm;
     mbedtls_gcm_init(&gcm);
     mbedtls_gcm_setkey(&gcm, MBEDTLS_CIPHER_ID_AES, key, 128);
@@ -201,7 +192,8 @@ static void mbed_seal(const struct packet *p) {
     settle();
 }
 
-static void mbed_open(const struct packet *p) {
+static void mbed_open(const void *with) {
+    const struct packet *p = with;
     mbedtls_gcm_context gcm;
     mbedtls_gcm_init(&gcm);
     mbedtls_gcm_setkey(&gcm, MBEDTLS_CIPHER_ID_AES, key, 128);
@@ -212,8 +204,6 @@ static void mbed_open(const struct packet *p) {
 }
 
 /* ---- the table: peers across, rows down */
-
-typedef void work(const struct packet *p);
 
 enum operation { WITH_KEY, PREPARED, SEAL, OPEN, OPERATIONS };
 enum { OURS, SMALL, BIG, MBED, PEERS };
@@ -244,11 +234,16 @@ static const struct row {
     {"open 16,448 bytes", OPEN, &packets[2]},
 };
 
-static double least[ROWS][PEERS];
-static size_t stack[ROWS][PEERS];
+static struct cell cells[ROWS][PEERS];
+
+static void make_cells(void) {
+    for (int row = 0; row < ROWS; row++)
+        for (int peer = 0; peer < PEERS; peer++)
+            cells[row][peer] = (struct cell){.does = peers[peer].does[rows[row].operation], .with = rows[row].packet};
+}
 
 static void run_cell(int row, int peer) {
-    peers[peer].does[rows[row].operation](rows[row].packet);
+    cells[row][peer].does(cells[row][peer].with);
 }
 
 /* ---- inputs, and whether all peers agree on them */
@@ -326,107 +321,6 @@ static void verify(void) {
     printf("all peers give the same bytes and tags\n");
 }
 
-/* ---- time */
-
-static double now_ns(void) {
-    struct timespec t;
-    clock_gettime(CLOCK_MONOTONIC, &t);
-    return 1e9 * (double)t.tv_sec + (double)t.tv_nsec;
-}
-
-static double sample(int row, int peer, unsigned long times) {
-    double start = now_ns();
-    for (unsigned long i = 0; i < times; i++)
-        run_cell(row, peer);
-    return (now_ns() - start) / (double)times;
-}
-
-static unsigned long calls_in_a_sample(int row, int peer) {
-    unsigned long times = 1;
-    double each = sample(row, peer, times);
-    while (each * (double)times < SAMPLE_NS / 4) {
-        times *= 2;
-        each = sample(row, peer, times);
-    }
-    return 1 + (unsigned long)(SAMPLE_NS / each);
-}
-
-static void measure_time(void) {
-    static unsigned long times[ROWS][PEERS];
-    for (int row = 0; row < ROWS; row++)
-        for (int peer = 0; peer < PEERS; peer++) {
-            times[row][peer] = calls_in_a_sample(row, peer);
-            least[row][peer] = 1e18;
-        }
-    for (int round = 0; round < ROUNDS; round++)
-        for (int row = 0; row < ROWS; row++)
-            for (int peer = 0; peer < PEERS; peer++) {
-                double ns = sample(row, peer, times[row][peer]);
-                if (ns < least[row][peer])
-                    least[row][peer] = ns;
-            }
-}
-
-/* ---- stack: a call on a stack of its own, filled with a pattern before */
-
-static _Alignas(64) uint8_t own_stack[STACK_BYTES];
-static ucontext_t here, there;
-static work *volatile stack_work;
-static const struct packet *stack_packet;
-
-static void nothing(const struct packet *p) {
-    (void)p;
-    settle();
-}
-
-static void on_own_stack(void) {
-    stack_work(stack_packet);
-    settle();
-}
-
-static size_t touched(work *f, const struct packet *p, uint8_t pattern) {
-    size_t untouched = 0;
-    stack_work = f;
-    stack_packet = p;
-    memset(own_stack, pattern, sizeof own_stack);
-    getcontext(&there);
-    there.uc_stack.ss_sp = own_stack;
-    there.uc_stack.ss_size = sizeof own_stack;
-    there.uc_link = &here;
-    makecontext(&there, on_own_stack, 0);
-    swapcontext(&here, &there);
-    while (untouched < sizeof own_stack && own_stack[untouched] == pattern)
-        untouched++;
-    return sizeof own_stack - untouched;
-}
-
-/* The deeper of two: a byte that is written with one pattern's value differs from the other's. */
-static size_t deepest(work *f, const struct packet *p) {
-    size_t one = touched(f, p, 0xa5), other = touched(f, p, 0x5a);
-    return one > other ? one : other;
-}
-
-enum { KNOWN = 3000 };
-
-static void known(const struct packet *p) {
-    uint8_t bytes[KNOWN];
-    (void)p;
-    memset(bytes, 1, sizeof bytes);
-    __asm__ volatile("" ::"r"(bytes) : "memory");
-}
-
-static void measure_stack(void) {
-    size_t frame = deepest(nothing, NULL), check = deepest(known, NULL) - frame;
-    if (check < KNOWN || check > KNOWN + 200) {
-        printf("the stack is measured wrongly: %zu bytes for %d\n", check, KNOWN);
-        exit(1);
-    }
-    for (int row = 0; row < ROWS; row++)
-        for (int peer = 0; peer < PEERS; peer++)
-            stack[row][peer] =
-                deepest(peers[peer].does[rows[row].operation], rows[row].packet) - frame;
-}
-
 /* ---- what is printed */
 
 static void print_heads(const char *corner) {
@@ -439,9 +333,9 @@ static void print_heads(const char *corner) {
 static void print_time(void) {
     print_heads("ns a call (peer / ours)");
     for (int row = 0; row < ROWS; row++) {
-        printf("%-28s%20.1f", rows[row].name, least[row][OURS]);
+        printf("%-28s%20.1f", rows[row].name, cells[row][OURS].least);
         for (int peer = SMALL; peer < PEERS; peer++)
-            printf("%12.1f (%4.2fx)", least[row][peer], least[row][peer] / least[row][OURS]);
+            printf("%12.1f (%4.2fx)", cells[row][peer].least, cells[row][peer].least / cells[row][OURS].least);
         printf("\n");
     }
     printf("Each cell ran once in each of %d rounds, for about %.1f ms, the peers in turn; the least\n"
@@ -460,7 +354,7 @@ static void print_stack(void) {
             continue;
         printf("%-28s", rows[row].name);
         for (int peer = 0; peer < PEERS; peer++)
-            printf("%20zu", stack[row][peer]);
+            printf("%20zu", cells[row][peer].stack);
         printf("\n");
     }
     printf("The deepest byte touched below the caller of a function that makes the call, contexts and\n"
@@ -472,22 +366,23 @@ static void print_bars(void) {
     printf("\n");
     for (int row = 0; row < ROWS; row++) {
         double bar = rows[row].packet == NULL ? BLOCK_BAR : PACKET_BAR;
-        double ratio = least[row][SMALL] / least[row][OURS];
+        double ratio = cells[row][SMALL].least / cells[row][OURS].least;
         printf("%s  %s: %.2f times as fast as BearSSL small, bar %.1f\n",
                ratio >= bar ? "PASS" : "FAIL", rows[row].name, ratio, bar);
     }
     for (int row = 0; row < ROWS; row++)
         if (in_stack_table(row))
             printf("%s  %s: %zu bytes of stack, bar %zu\n",
-                   stack[row][OURS] <= STACK_BAR ? "PASS" : "FAIL", rows[row].name,
-                   stack[row][OURS], STACK_BAR);
+                   cells[row][OURS].stack <= STACK_BAR ? "PASS" : "FAIL", rows[row].name,
+                   cells[row][OURS].stack, STACK_BAR);
 }
 
 int main(void) {
     make_inputs();
+    make_cells();
     verify();
-    measure_time();
-    measure_stack();
+    measure_time(cells[0], ROWS * PEERS);
+    measure_stack(cells[0], ROWS * PEERS);
     print_time();
     print_stack();
     print_bars();

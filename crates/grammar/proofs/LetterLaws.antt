@@ -1,21 +1,20 @@
 -- Letters, in the order in which the code looks for them; and names of letters alone, in which no letter is a fault.
 use mathlib.Core.Path.{_≡_, refl, sym, ap, _∙_}
-use mathlib.Core.Logic.{_⊎_, inl, inr, ⊎-elim}
-use mathlib.Core.Bool.{Bool, true, false, _&&_, _||_}
+use mathlib.Core.Bool.{Bool, true, false, not, _&&_, _||_}
 use mathlib.Core.List.{List, [], _∷_}
 use Prim.Native.Nat.{ℕ, zero, suc, _+_, _-_, _<_, _≤_}
 use native.Mathlib.Numerals.{add-one}
 use native.Mathlib.Omega.{arith}
 use lib.Bits.{bitOr, or-add-and, and-le-l, and-le-r}
-use lib.Dec.{leb, eqb}
+use lib.Dec.{leb, ltb, eqb}
 use lib.ListN.{length, getD, drop, drop-of-length-le}
 use lib.Seq.{drop-cons}
-use borrow.Author.Tests.{lt-leb, le-leb, leb-true, leb-false, eq-eqb, ne-eqb, eqb-true, eqb-false}
+use borrow.Author.Tests.{lt-ltb, lt-leb, le-leb, leb-true, leb-false, ne-eqb, eqb-true, eqb-false, not-true}
 use Rattle.octets.specs.Checks.{pick}
 use Rattle.octets.specs.Range.{between}
 use Rattle.octets.proofs.CheckLaws.{and-left, and-right}
 use Rattle.octets.proofs.SameLaws.{or-zero, and-assoc, and-true}
-use Rattle.grammar.specs.Names.{letter, allLetters, fitting}
+use Rattle.grammar.specs.Names.{letter, inner, allInner, plain, innerSpace, fitting}
 use Rattle.grammar.specs.Faults.{none, first, each}
 use Rattle.grammar.specs.Checks.{letterChecks}
 use Rattle.grammar.proofs.TestLaws.{or-none, or-right}
@@ -76,33 +75,62 @@ plus x l u d k =
       ne-eqb x 47 (λ e. omega (arith, o (omega arith))),
     ) (sym (or-none (eqb x 43)))
 
--- what is odd in a byte is nothing, just where it is a letter
-odd-zero : (x : ℕ) → eqb (pick (letter x) 0 (bitOr x 1)) 0 ≡ letter x
-odd-zero x = either (letter x) refl where
-  either : (t : Bool) → letter x ≡ t → eqb (pick t 0 (bitOr x 1)) 0 ≡ t
+-- what is odd in a byte is nothing, just where it may stand inside a name
+odd-zero : (x : ℕ) → eqb (pick (inner x) 0 (bitOr x 1)) 0 ≡ inner x
+odd-zero x = either (inner x) refl where
+  either : (t : Bool) → inner x ≡ t → eqb (pick t 0 (bitOr x 1)) 0 ≡ t
   either true e = refl
   either false e = ne-eqb (bitOr x 1) 0 (λ z. omega (arith, or-add-and x 1, and-le-l x 1, and-le-r x 1))
 
 -- one more byte, and none left
-pub letters-step : (c : ℕ) (s : List ℕ) (k : ℕ) → k < length s
-    → eqb (bitOr c (pick (letter (getD s k 0)) 0 (bitOr (getD s k 0) 1))) 0 && allLetters (drop (k + 1) s) ≡ eqb c 0 && allLetters (drop k s)
-unfolding allLetters
-letters-step c s k h =
+pub inner-step : (c : ℕ) (s : List ℕ) (k : ℕ) → k < length s
+    → eqb (bitOr c (pick (inner (getD s k 0)) 0 (bitOr (getD s k 0) 1))) 0 && allInner (drop (k + 1) s) ≡ eqb c 0 && allInner (drop k s)
+unfolding allInner
+inner-step c s k h =
     let x : ℕ = getD s k 0 in
-    rw (add-one, or-zero c (pick (letter x) 0 (bitOr x 1)) (eqb c 0) refl, odd-zero x, and-assoc, drop-cons s k 0)
+    rw (add-one, or-zero c (pick (inner x) 0 (bitOr x 1)) (eqb c 0) refl, odd-zero x, and-assoc, drop-cons s k 0)
 
-pub letters-end : (c : ℕ) (s : List ℕ) (k : ℕ) → length s ≤ k → eqb c 0 && allLetters (drop k s) ≡ eqb c 0
-unfolding allLetters
-letters-end c s k h = rw (drop-of-length-le s h) (and-true (eqb c 0))
+pub inner-end : (c : ℕ) (s : List ℕ) (k : ℕ) → length s ≤ k → eqb c 0 && allInner (drop k s) ≡ eqb c 0
+unfolding allInner
+inner-end c s k h = rw (drop-of-length-le s h) (and-true (eqb c 0))
 
-letters-at : (s : List ℕ) → allLetters s ≡ true → (k : ℕ) → k < length s → letter (getD s k 0) ≡ true
-unfolding allLetters
-letters-at [] e k h = absurd (omega arith)
-letters-at (x ∷ s) e zero h = and-left (letter x) (allLetters s) e
-letters-at (x ∷ s) e (suc k) h = letters-at s (and-right (letter x) (allLetters s) e) k (omega arith)
+inner-at : (s : List ℕ) → allInner s ≡ true → (k : ℕ) → k < length s → inner (getD s k 0) ≡ true
+unfolding allInner
+inner-at [] e k h = absurd (omega arith)
+inner-at (x ∷ s) e zero h = and-left (inner x) (allInner s) e
+inner-at (x ∷ s) e (suc k) h = inner-at s (and-right (inner x) (allInner s) e) k (omega arith)
 
--- a name of letters has no bad letter
-pub letters-good : (p : ℕ) (s : List ℕ) → allLetters s ≡ true → (i m : ℕ) → i + m ≤ length s → first (each (letterChecks p s) i m) ≡ none
-unfolding each first fitting
-letters-good p s e i zero h = refl
-letters-good p s e i (suc m) h = rw (letters-at s e i (omega arith)) (letters-good p s e (suc i) m (omega arith))
+-- a byte that may stand inside fits, if no space stands at an end
+fits-inside : (s : List ℕ) (k : ℕ) → k < length s → inner (getD s k 0) ≡ true → (getD s 0 0 ≡ 32 → ⊥) → (getD s (length s - 1) 0 ≡ 32 → ⊥)
+    → fitting s k ≡ true
+unfolding inner fitting innerSpace
+fits-inside s k h e front back = either (eqb (getD s k 0) 32) refl where
+  either : (t : Bool) → eqb (getD s k 0) 32 ≡ t → fitting s k ≡ true
+  either false q =
+      let l : letter (getD s k 0) ≡ true = rw (q, or-none (letter (getD s k 0))) at e in rw l
+  either true q =
+      let x : getD s k 0 ≡ 32 = eqb-true (getD s k 0) 32 q in
+      let a : k ≡ 0 → ⊥ = λ z. front (ap (λ (j : ℕ). getD s j 0) (sym z) ∙ x) in
+      let b : k ≡ length s - 1 → ⊥ = λ z. back (ap (λ (j : ℕ). getD s j 0) (sym z) ∙ x) in
+      or-right (letter (getD s k 0)) (eqb (getD s k 0) 32 && (ltb 0 k && ltb (suc k) (length s)))
+      (rw (q, lt-ltb 0 k (omega (arith, a)), lt-ltb (suc k) (length s) (omega (arith, b))))
+
+-- what a name that isn't empty has if it is plain
+plain-parts : (s : List ℕ) → plain s ≡ true → 0 < length s
+    → (getD s 0 0 ≡ 32 → ⊥) × (getD s (length s - 1) 0 ≡ 32 → ⊥) × (allInner s ≡ true)
+unfolding plain
+plain-parts s e h =
+    let z : eqb (length s) 0 ≡ false = ne-eqb (length s) 0 (omega arith) in
+    let a : Bool = not (eqb (getD s 0 0) 32) in
+    let b : Bool = not (eqb (getD s (length s - 1) 0) 32) in
+    let f : (a && (b && allInner s)) ≡ true = rw z at e in
+    let g : (b && allInner s) ≡ true = and-right a (b && allInner s) f in
+    (eqb-false _ _ (not-true _ (and-left a (b && allInner s) f)), eqb-false _ _ (not-true _ (and-left b (allInner s) g)), and-right b (allInner s) g)
+
+-- a plain name has no bad letter
+pub plain-good : (p : ℕ) (s : List ℕ) → plain s ≡ true → (i m : ℕ) → i + m ≤ length s → first (each (letterChecks p s) i m) ≡ none
+unfolding each first
+plain-good p s e i zero h = refl
+plain-good p s e i (suc m) h =
+    let q = plain-parts s e (omega arith) in
+    rw (fits-inside s i (omega arith) (inner-at s (q .2) i (omega arith)) (q .0) (q .1)) (plain-good p s e (suc i) m (omega arith))

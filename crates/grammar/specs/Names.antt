@@ -1,6 +1,6 @@
 -- Document 01, "The book": "Names: 1 to 256 bytes of letters, digits, - _ + . / and, inside only, space." Sample P10 computes from these.
-use Prim.Native.Nat.{ℕ, suc}
-use mathlib.Core.Bool.{Bool, true, _&&_, _||_}
+use Prim.Native.Nat.{ℕ, suc, _-_}
+use mathlib.Core.Bool.{Bool, true, not, _&&_, _||_}
 use mathlib.Core.List.{List, [], _∷_}
 use lib.Dec.{ltb, eqb}
 use lib.ListN.{length, getD}
@@ -12,9 +12,17 @@ letter c =
     between 65 90 c || (between 97 122 c || (between 48 57 c
     || (eqb c 45 || (eqb c 95 || (eqb c 43 || (eqb c 46 || eqb c 47))))))
 
-unfoldable pub allLetters : List ℕ → Bool
-allLetters [] = true
-allLetters (c ∷ s) = letter c && allLetters s
+-- what may stand inside a name
+unfoldable pub inner : ℕ → Bool
+inner c = letter c || eqb c 32
+
+unfoldable pub allInner : List ℕ → Bool
+allInner [] = true
+allInner (c ∷ s) = inner c && allInner s
+
+-- a name whose bytes may all stand where they do, with no space at its ends
+unfoldable pub plain : List ℕ → Bool
+plain s = eqb (length s) 0 || (not (eqb (getD s 0 0) 32) && (not (eqb (getD s (length s - 1) 0) 32) && allInner s))
 
 -- a space that is neither the first nor the last byte of s
 unfoldable pub innerSpace : List ℕ → ℕ → Bool

@@ -12,7 +12,7 @@ ghost use Rattle.octets.specs.Same.{same};
 ghost use Rattle.layout.specs.Layout as L;
 ghost use lib.Bits.{bitOr};
 ghost use Rattle.octets.specs.Checks.{pick};
-ghost use Rattle.grammar.specs.Names.{letter, allLetters, fitting};
+ghost use Rattle.grammar.specs.Names.{letter, inner, allInner, plain, fitting};
 ghost use Rattle.grammar.specs.Faults.{first, each};
 ghost use Rattle.grammar.specs.Checks.{letterChecks, usedBelow};
 
@@ -37,20 +37,23 @@ fn is_letter(c: u8) -> bool
     c == b'+'
 }
 
-// 0 for a letter, and not 0 for any other byte.
+// 0 for a letter or a space, and not 0 for any other byte.
 fn oddness(c: u8) -> u8
-    ensures { λ r. ⌜ r ≡ pick (letter c) 0 (bitOr c 1) ⌝ }
+    ensures { λ r. ⌜ r ≡ pick (inner c) 0 (bitOr c 1) ⌝ }
 {
     if is_letter(c) {
+        return 0;
+    }
+    if c == b' ' {
         return 0;
     }
     c | 1
 }
 
-// Whether all bytes of a name are letters. What is odd in each is collected and judged once: no byte decides a branch, so that a compiler takes many at
-// a time.
-fn all_letters(name: &[u8]) -> bool
-    ensures { λ r. ⌜ r ≡ allLetters (now (name .entry)) ⌝ }
+// Whether all bytes of a name may stand inside one. What is odd in each is collected and judged once: no byte decides a branch, so that a compiler takes
+// many at a time.
+fn all_inner(name: &[u8]) -> bool
+    ensures { λ r. ⌜ r ≡ allInner (now (name .entry)) ⌝ }
 {
     let mut odd: u8 = 0;
     let mut k: usize = 0;
@@ -59,6 +62,23 @@ fn all_letters(name: &[u8]) -> bool
         k += 1;
     }
     odd == 0
+}
+
+// Whether a name has no bad letter.
+fn is_plain(name: &[u8]) -> bool
+    ensures { λ r. ⌜ r ≡ plain (now (name .entry)) ⌝ }
+{
+    let n = name.len();
+    if n == 0 {
+        return true;
+    }
+    if name[0] == b' ' {
+        return false;
+    }
+    if name[n - 1] == b' ' {
+        return false;
+    }
+    all_inner(name)
 }
 
 // Whether byte k of a name may stand there: a letter, or a space inside.
@@ -79,12 +99,12 @@ fn is_fitting(name: &[u8], k: usize) -> bool
     k + 1 < name.len()
 }
 
-// The letters of a name that stands at `at`. Most names have letters alone; only another is looked through for the first byte that doesn't fit.
+// The letters of a name that stands at `at`. Most names are fine; only another is looked through for the first byte that doesn't fit.
 pub(crate) fn judge_letters(name: &[u8], at: usize) -> Fault
     requires { ⌜ at < 2 ^ 33 ⌝ }
     ensures { λ r. ⌜ r ≡ first (each (letterChecks at (now (name .entry))) 0 (length (now (name .entry)))) ⌝ }
 {
-    if all_letters(name) {
+    if is_plain(name) {
         return no_fault();
     }
     let mut k: usize = 0;

@@ -1,4 +1,4 @@
--- `names::judge_letters` meets its contract: a name of letters has no fault, and another is gone through byte by byte.
+-- `names::judge_letters` meets its contract: a plain name has no bad letter, and another is gone through byte by byte.
 use mathlib.Core.Path.{_≡_, refl, sym, ap, _∙_}
 use Prim.Native.Nat.{_-_}
 use native.Mathlib.Omega.{arith}
@@ -8,7 +8,7 @@ use Rattle.grammar.specs.Faults.{none, first}
 use Rattle.grammar.specs.Checks.{letterChecks}
 use Rattle.octets.proofs.CheckLaws.{no, yes}
 use Rattle.grammar.proofs.FaultLaws.{Left, left-all, left-more, left-stop, left-end}
-use Rattle.grammar.proofs.LetterLaws.{letters-good}
+use Rattle.grammar.proofs.LetterLaws.{plain-good}
 use Rattle.grammar.proofs.names.judge_letters.Statement.{statement}
 use Rattle.grammar.proofs.names.judge_letters.Tie as tie
 
@@ -24,7 +24,7 @@ loop-holds c = left-all _ _
 returns : tie.Need-returns Inv-loop μ-loop
 returns c =
     let l = c .before .before in
-    c .no-fault .ensures ∙ sym (letters-good _ _ (sym (l .all-letters .ensures) ∙ c .before .if1 .taken) 0 _ (omega arith))
+    c .no-fault .ensures ∙ sym (plain-good _ _ (sym (l .is-plain .ensures) ∙ c .before .if1 .taken) 0 _ (omega arith))
 
 returns-2 : tie.Need-returns-2 Inv-loop μ-loop
 unfolding first

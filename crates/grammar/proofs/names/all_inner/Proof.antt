@@ -1,4 +1,4 @@
--- `names::all_letters` meets its contract. The invariant: nothing odd is collected and the rest are letters, just where all are.
+-- `names::all_inner` meets its contract. The invariant: nothing odd is collected and the rest may stand inside, just where all may.
 use borrow.Author.Needs.{needs}
 use mathlib.Core.Path.{_≡_, refl, sym, ap, _∙_}
 use mathlib.Core.Bool.{_&&_}
@@ -7,13 +7,13 @@ use native.Mathlib.Omega.{arith}
 use lib.Bits.{bitOr}
 use lib.Dec.{eqb}
 use lib.ListN.{length, drop}
-use Rattle.grammar.specs.Names.{allLetters}
-use Rattle.grammar.proofs.LetterLaws.{letters-step, letters-end}
-use Rattle.grammar.proofs.names.all_letters.Statement.{statement}
-use Rattle.grammar.proofs.names.all_letters.Tie as tie
+use Rattle.grammar.specs.Names.{allInner}
+use Rattle.grammar.proofs.LetterLaws.{inner-step, inner-end}
+use Rattle.grammar.proofs.names.all_inner.Statement.{statement}
+use Rattle.grammar.proofs.names.all_inner.Tie as tie
 
 abbrev Inv-loop : tie.InvT-loop
-Inv-loop name odd₀ k₀ odd k = (k ≤ length name) × (eqb odd 0 && allLetters (drop k name) ≡ allLetters name)
+Inv-loop name odd₀ k₀ odd k = (k ≤ length name) × (eqb odd 0 && allInner (drop k name) ≡ allInner name)
 
 abbrev μ-loop : tie.MeasureT-loop
 μ-loop name odd₀ k₀ odd k = length name - k
@@ -25,15 +25,15 @@ loop-again : tie.Need-loop-again Inv-loop μ-loop
 loop-again c =
     let l = c .before .before .before in
     let s = l .before .before .args .name .now in
-    (omega arith, rw (c .oddness .ensures) (letters-step (l .loop .odd) s (l .loop .k) (omega arith)) ∙ l .loop .inv .1)
+    (omega arith, rw (c .oddness .ensures) (inner-step (l .loop .odd) s (l .loop .k) (omega arith)) ∙ l .loop .inv .1)
 
 returns : tie.Need-returns Inv-loop μ-loop
 returns c =
     let l = c .before in
-    sym (letters-end (l .loop .odd) (l .before .before .args .name .now) (l .loop .k) (omega arith)) ∙ l .loop .inv .1
+    sym (inner-end (l .loop .odd) (l .before .before .args .name .now) (l .loop .k) (omega arith)) ∙ l .loop .inv .1
 
-pub all-letters-spec : {M : Type 1} → statement M
-all-letters-spec =
+pub all-inner-spec : {M : Type 1} → statement M
+all-inner-spec =
     tie.close (tie.spec
     Inv-loop μ-loop loop-holds (λ c. search needs) (λ c κs. search needs) (λ c. search needs) (λ c. search needs)
     loop-again returns)
