@@ -1,5 +1,5 @@
--- Multiplying by x^64 in one go: each bit that is shifted out brings back R, and together they bring back L, L >> 1, L >> 2 and
--- L >> 7. By induction on the number of steps, up to 120, and then in the two words of a block.
+-- Multiplying by x^32 and by x^64 in one go: each bit that is shifted out brings back R, and together they bring back L, L >> 1,
+-- L >> 2 and L >> 7. By induction on the number of steps, up to 120, and then in the two words of a block.
 use mathlib.Core.Path.{_≡_, refl, sym, ap, ap₂, _∙_}
 use Prim.Native.Nat.{ℕ, zero, suc, _+_, _-_, _*_, _/_, _%_, _^_, _≤_, _<_}
 use native.Mathlib.Nat.{add-zero, add-mul, mul-assoc, one-mul, zero-mul, div-one, pow-succ'}
@@ -89,7 +89,32 @@ V-back (suc k) n v e h =
     ∙ ap₂ bitXor (shr-shr v 1 k ∙ ap (λ (j : ℕ). v / 2 ^ j) (one-add k))
     (back-digit a c n (omega arith) ∙ ap (λ (m : ℕ). back (m * 2 ^ n)) (sym (mod-pow-add v k 1) ∙ ap (λ (j : ℕ). v % 2 ^ j) (add-one k)))
 
--- the code's two words
+-- what 32 bits bring back ends in 0s: it stays in the high word
+back-high : (l : ℕ) → back (l * 2 ^ 32 * 2 ^ 64) ≡ back (l * 2 ^ 32) * 2 ^ 64
+unfolding back
+back-high l =
+    let m : ℕ = l * 2 ^ 32 in
+    let e1 : m * 2 ^ 64 / 2 ≡ m / 2 * 2 ^ 64 = omega arith in
+    let e2 : m * 2 ^ 64 / 4 ≡ m / 4 * 2 ^ 64 = omega arith in
+    let e7 : m * 2 ^ 64 / 128 ≡ m / 128 * 2 ^ 64 = omega arith in
+    ap₂ bitXor
+    (ap₂ bitXor (ap (bitXor (m * 2 ^ 64)) e1 ∙ xor-scaled m (m / 2) 64) e2 ∙ xor-scaled (bitXor m (m / 2)) (m / 4) 64)
+    e7
+    ∙ xor-scaled (bitXor (bitXor m (m / 2)) (m / 4)) (m / 128) 64
+
+-- the code's two words, times x^32 and times x^64
+pub x32-words : (h l : ℕ) → l < 2 ^ 64
+    → bitXor (h / 2 ^ 32) (back (l % 2 ^ 32 * 2 ^ 32)) * 2 ^ 64 + (h % 2 ^ 32 * 2 ^ 32 + l / 2 ^ 32) ≡ Vᵢ (h * 2 ^ 64 + l) 32
+x32-words h l hl =
+    let m : ℕ = l % 2 ^ 32 * 2 ^ 32 in
+    let r : ℕ = h % 2 ^ 32 * 2 ^ 32 + l / 2 ^ 32 in
+    let e : h / 2 ^ 32 * 2 ^ 64 + r ≡ (h * 2 ^ 64 + l) / 2 ^ 32 = omega arith in
+    let f : l % 2 ^ 32 ≡ (h * 2 ^ 64 + l) % 2 ^ 32 = omega arith in
+    ap (λ (s : ℕ). bitXor (h / 2 ^ 32) (back m) * 2 ^ 64 + s) (sym (xor-zero-r r))
+    ∙ sym (xor-block 64 (h / 2 ^ 32) (back m) r 0 (omega arith) (omega arith))
+    ∙ ap₂ bitXor e (add-zero (back m * 2 ^ 64) ∙ sym (back-high (l % 2 ^ 32)) ∙ ap back (mul-assoc (l % 2 ^ 32) (2 ^ 32) (2 ^ 64) ∙ ap (λ (n : ℕ). n * 2 ^ 96) f))
+    ∙ sym (V-back 32 96 (h * 2 ^ 64 + l) refl (omega arith))
+
 pub x64-words : (h l : ℕ) → h < 2 ^ 64 → l < 2 ^ 64
     → bitXor (bitXor (bitXor l (l / 2)) (l / 4)) (l / 128) * 2 ^ 64 + bitXor (bitXor (bitXor h (l % 2 * 2 ^ 63)) (l % 4 * 2 ^ 62)) (l % 128 * 2 ^ 57)
     ≡ Vᵢ (h * 2 ^ 64 + l) 64

@@ -3,10 +3,9 @@ use mathlib.Core.Path.{_≡_, refl, sym, ap, ap₂, _∙_}
 use mathlib.Core.List.{[], _∷_}
 use Prim.Native.Nat.{ℕ, zero, suc, _+_, _*_, _/_, _%_, _^_, _<_}
 use native.Mathlib.Nat.{mod-eq-of-lt}
-use native.Mathlib.Numerals.{add-one}
 use native.Mathlib.Omega.{arith}
 use lib.Bits.{bitXor, bitAnd, xor-block, xor-zero-r, and-comm, and-mask, and-zero-r}
-use Rattle.ghash.specs.Field.{R, bit, byBit, nextZ, nextV, Vᵢ, Zᵢ}
+use Rattle.ghash.specs.Field.{R, byBit, nextZ, nextV}
 use Rattle.ghash.specs.Bytes.{bytesOf}
 use Rattle.ghash.proofs.FieldLaws.{high-run, low-run}
 
@@ -51,15 +50,6 @@ x-words h l hl =
     (sym (ap (bitXor lo) (by-zero (l % 2)) ∙ xor-zero-r lo))
     ∙ by-words (l % 2) (h / 2) lo 0xe100_0000_0000_0000 0 (omega arith) (omega arith)
     ∙ ap₂ (λ (b v : ℕ). byBit b v (bitXor v R)) e s
-
--- a step of algorithm 1, at the code's i + 1
-pub V-next : (y i : ℕ) → Vᵢ y (i + 1) ≡ nextV (Vᵢ y i)
-unfolding Vᵢ
-V-next y i = rw add-one
-
-pub Z-next : (x y i : ℕ) → Zᵢ x y (i + 1) ≡ nextZ (bit x i) (Zᵢ x y i) (Vᵢ y i)
-unfolding Zᵢ
-Z-next x y i = rw add-one
 
 -- ---- bytes
 

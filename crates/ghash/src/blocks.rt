@@ -73,6 +73,17 @@ pub(crate) fn absorb(h: Block, y: Block, s: &[u8]) -> Block
     field::mul(field::xor(y, end_block(s, 16 * n)), h)
 }
 
+// GHASH's steps from 0 on, over the blocks of s. One to four bytes, as a command's additional data, make one block with only its
+// first 32 bits set.
+pub(crate) fn start(h: Block, s: &[u8]) -> Block
+    ensures { λ r. ⌜ num r ≡ ghashFrom (num h) 0 (padded (now (s .entry))) ⌝ }
+{
+    if 0 < s.len() && s.len() < 5 {
+        return field::mul_short(end_block(s, 0), h);
+    }
+    absorb(h, Block { hi: 0, lo: 0 }, s)
+}
+
 // The length of s in bits.
 pub(crate) fn len_bits(s: &[u8]) -> u64
     ensures { λ r. ⌜ r ≡ lenBits (now (s .entry)) ⌝ }

@@ -14,7 +14,7 @@ pub fn hash(h: [u8; 16], a: &[u8], c: &[u8]) -> [u8; 16]
     ensures { λ r. ⌜ r ≡ hashOf h (now (a .entry)) (now (c .entry)) ⌝ }
 {
     let k = blocks::block_at(&h, 0);
-    let y = blocks::absorb(k, blocks::absorb(k, Block { hi: 0, lo: 0 }, a), c);
+    let y = blocks::absorb(k, blocks::start(k, a), c);
     let l = Block { hi: blocks::len_bits(a), lo: blocks::len_bits(c) };
     blocks::bytes_of(field::mul(field::xor(y, l), k))
 }

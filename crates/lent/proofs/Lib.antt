@@ -10,3 +10,4 @@ pub mod Tail
 pub mod Slices
 pub mod Bytes
 pub mod Names
+pub mod Settled

@@ -26,7 +26,7 @@ returns c =
     let y = z .before in
     let k = y .before in
     let s = k .before .before .before .before .args in
-    in-parts (s .t1) (s .a .now) (s .c .now) _ _ _ _ _ _ _ _ (k .block-at .ensures) (y .absorb .ensures) (z .absorb2 .ensures) (m .len-bits .ensures)
+    in-parts (s .t1) (s .a .now) (s .c .now) _ _ _ _ _ _ _ _ (k .block-at .ensures) (y .start .ensures) (z .absorb .ensures) (m .len-bits .ensures)
     (n .len-bits2 .ensures) (x .xor .ensures) (p .mul .ensures) (c .bytes-of .ensures)
 
 pub hash-spec : {M : Type 1} → statement M

@@ -1,47 +1,53 @@
--- `ghash::field::mul` meets its contract. The loop's invariant: after i turns p is Z_i of x, q is Z_i of x's low word, and v is V_i;
--- so at the end p ⊕ (q times x^64) is Z_128.
+-- `ghash::field::mul` meets its contract. The loop's invariant: after i turns a, b, c and d are Z_i of x << 0, 32, 64 and 96, v is
+-- V_i, and h and l are x's words << i; so at the end a ⊕ (b times x^32) ⊕ ((c ⊕ (d times x^32)) times x^64) is Z_128.
 use borrow.Author.Needs.{needs}
 use mathlib.Core.Path.{_≡_, refl, sym}
-use Prim.Native.Nat.{ℕ, _+_, _-_, _*_, _/_, _%_, _^_, _≤_, _<_}
-use native.Mathlib.Nat.{add-zero}
+use Prim.Native.Nat.{ℕ, _+_, _-_, _*_, _^_, _≤_, _<_}
 use native.Mathlib.Omega.{arith}
 use lib.Bits.{bitXor}
-use Rattle.ghash.specs.Field.{nextZ, nextV, Vᵢ, Zᵢ, dot}
+use Rattle.ghash.specs.Field.{Vᵢ, Zᵢ, dot}
 use Rattle.ghash.specs.Words.{num}
-use Rattle.ghash.proofs.FieldLaws.{bit-high, Z-halves}
-use Rattle.ghash.proofs.WordLaws.{V-next, Z-next}
+use Rattle.ghash.proofs.FieldLaws.{Z-quarters}
+use Rattle.ghash.proofs.TurnLaws.{Doubled, Sum, turn-word, turn-power, turn-0, turn-32, turn-64, turn-96}
 use Rattle.ghash.proofs.field.mul.Statement.{statement}
 use Rattle.ghash.proofs.field.mul.Tie as tie
 
 abbrev Inv-loop : tie.InvT-loop
-Inv-loop x p₀ q₀ v₀ i₀ p q v i =
-    (i ≤ 64) × (0 < i → x .lo < 2 ^ 64)
-    × (num p ≡ Zᵢ (num x) (num v₀) i) × (num q ≡ Zᵢ (x .lo * 2 ^ 64) (num v₀) i) × (num v ≡ Vᵢ (num v₀) i)
+Inv-loop a₀ b₀ c₀ d₀ v₀ h₀ l₀ i₀ a b c d v h l i =
+    (i ≤ 32) × (l₀ < 2 ^ 64) × Doubled h₀ i h × Doubled l₀ i l × (num v ≡ Vᵢ (num v₀) i)
+    × Sum (h₀ * 2 ^ 64 + l₀) (num v₀) 0 i (num a)
+    × Sum (h₀ * 2 ^ 64 + l₀) (num v₀) 32 i (num b)
+    × Sum (h₀ * 2 ^ 64 + l₀) (num v₀) 64 i (num c)
+    × Sum (h₀ * 2 ^ 64 + l₀) (num v₀) 96 i (num d)
 
 abbrev μ-loop : tie.MeasureT-loop
-μ-loop x p₀ q₀ v₀ i₀ p q v i = 64 - i
+μ-loop a₀ b₀ c₀ d₀ v₀ h₀ l₀ i₀ a b c d v h l i = 32 - i
 
 loop-holds : tie.Need-loop-holds Inv-loop μ-loop
 unfolding Vᵢ Zᵢ
-loop-holds c = (omega arith, (λ h. absurd (omega arith)), refl, refl, refl)
-
-sub-add : tie.Need-sub-add Inv-loop μ-loop
-sub-add c = omega arith
-
-shr-add : tie.Need-shr-add Inv-loop μ-loop
-shr-add c = omega arith
+loop-holds c =
+    let x = c .args .x in
+    let hh : x .hi < 2 ^ 64 = c .good .0 .1 .1 .0 .1 in
+    let hl : x .lo < 2 ^ 64 = c .good .0 .1 .1 .1 .0 .1 in
+    (omega arith, hl, omega arith, omega arith, refl, refl, refl, refl, refl)
 
 add-requires : tie.Need-add-requires Inv-loop μ-loop
 add-requires c κs = omega arith
 
-sub-add-2 : tie.Need-sub-add-2 Inv-loop μ-loop
-sub-add-2 c = omega arith
-
-shr-add-2 : tie.Need-shr-add-2 Inv-loop μ-loop
-shr-add-2 c = omega arith
-
 add-requires-2 : tie.Need-add-requires-2 Inv-loop μ-loop
 add-requires-2 c κs = omega arith
+
+add-requires-3 : tie.Need-add-requires-3 Inv-loop μ-loop
+add-requires-3 c κs = omega arith
+
+add-requires-4 : tie.Need-add-requires-4 Inv-loop μ-loop
+add-requires-4 c κs = omega arith
+
+mul-h : tie.Need-mul-h Inv-loop μ-loop
+mul-h c = omega arith
+
+mul-l : tie.Need-mul-l Inv-loop μ-loop
+mul-l c = omega arith
 
 add-i : tie.Need-add-i Inv-loop μ-loop
 add-i c = omega arith
@@ -49,54 +55,57 @@ add-i c = omega arith
 loop-less : tie.Need-loop-less Inv-loop μ-loop
 loop-less c = omega arith
 
--- a turn: what p, q and v become
-turn-high : (h l y i p v r : ℕ) → l < 2 ^ 64 → i < 64 → p ≡ Zᵢ (h * 2 ^ 64 + l) y i → v ≡ Vᵢ y i → r ≡ nextZ (h / 2 ^ (63 - i) % 2) p v →
-    r ≡ Zᵢ (h * 2 ^ 64 + l) y (i + 1)
-turn-high h l y i p v r lo lt ep ev er = rw (er, ep, ev, bit-high h l i lo lt) (sym (Z-next (h * 2 ^ 64 + l) y i))
-
-turn-low : (l y i q v r : ℕ) → i < 64 → q ≡ Zᵢ (l * 2 ^ 64) y i → v ≡ Vᵢ y i → r ≡ nextZ (l / 2 ^ (63 - i) % 2) q v → r ≡ Zᵢ (l * 2 ^ 64) y (i + 1)
-turn-low l y i q v r lt eq ev er = rw (er, eq, ev, bit-high l 0 i (omega arith) lt, add-zero (l * 2 ^ 64)) (sym (Z-next (l * 2 ^ 64) y i))
-
-turn-power : (y i v r : ℕ) → v ≡ Vᵢ y i → r ≡ nextV v → r ≡ Vᵢ y (i + 1)
-turn-power y i v r ev er = rw (er, ev) (sym (V-next y i))
-
--- the two sums at the end
-summed : (h l y i p q t r : ℕ) → i ≡ 64 → l < 2 ^ 64 → p ≡ Zᵢ (h * 2 ^ 64 + l) y i → q ≡ Zᵢ (l * 2 ^ 64) y i → t ≡ Vᵢ q 64 → r ≡ bitXor p t →
-    r ≡ dot (h * 2 ^ 64 + l) y
+-- the four sums at the end
+summed : (x y i a b c d p q r s t u : ℕ) → i ≡ 32 → Sum x y 0 i a → Sum x y 32 i b → Sum x y 64 i c → Sum x y 96 i d →
+    p ≡ Vᵢ b 32 → q ≡ bitXor a p → r ≡ Vᵢ d 32 → s ≡ bitXor c r → t ≡ Vᵢ s 64 → u ≡ bitXor q t → u ≡ dot x y
 unfolding dot
-summed h l y i p q t r e lo ep eq et er = rw (er, et, ep, eq, e) (sym (Z-halves h l y 64 lo (omega arith)))
+summed x y i a b c d p q r s t u e ea eb ec ed ep eq er es et eu =
+    rw (eu, et, es, er, eq, ep, ea, eb, ec, ed, e) (sym (Z-quarters x y))
 
 loop-again : tie.Need-loop-again Inv-loop μ-loop
 loop-again c =
-    let q = c .before in
-    let k = q .before in
-    let p = k .before in
-    let l = p .before .before .before in
-    let x = l .before .args .x in
-    let y = num (l .before .args .y) in
-    let i = l .loop .i in
-    let lo = k .struct-known2 .given .1 .0 .fits in
-    let lt : i < 64 = omega arith in (
+    let sd = c .before in
+    let sc = sd .before in
+    let sb = sc .before in
+    let sa = sb .before in
+    let t = sa .before .before in
+    let h = t .before .args .x .hi in
+    let l = t .before .args .x .lo in
+    let y = num (t .before .args .y) in
+    let i = t .loop .i in
+    let lt : i < 32 = omega arith in
+    let hl = t .loop .inv .1 in
+    let eh = t .loop .inv .2 in
+    let el = t .loop .inv .3 in
+    let ev = t .loop .inv .4 in (
       omega arith,
-      (λ _. lo),
-      turn-high (x .hi) (x .lo) y i _ _ _ lo lt (l .loop .inv .2) (l .loop .inv .4) (p .add .ensures),
-      turn-low (x .lo) y i _ _ _ lt (l .loop .inv .3) (l .loop .inv .4) (q .add2 .ensures),
-      turn-power y i _ _ (l .loop .inv .4) (c .times-x .ensures),
+      hl,
+      turn-word h i _ eh,
+      turn-word l i _ el,
+      turn-power y i _ _ ev (c .times-x .ensures),
+      turn-0 h l y i _ _ _ _ hl lt ev eh (t .loop .inv .5) (sa .add .ensures),
+      turn-32 h l y i _ _ _ _ hl lt ev eh (t .loop .inv .6) (sb .add2 .ensures),
+      turn-64 h l y i _ _ _ _ hl lt ev el (t .loop .inv .7) (sc .add3 .ensures),
+      turn-96 h l y i _ _ _ _ hl lt ev el (t .loop .inv .8) (sd .add4 .ensures),
     )
 
 returns : tie.Need-returns Inv-loop μ-loop
 returns c =
-    let t = c .before in
-    let l = t .before .before in
-    let x = l .before .args .x in
+    let t64 = c .before in
+    let s = t64 .before in
+    let d32 = s .before in
+    let q = d32 .before in
+    let b32 = q .before in
+    let l = b32 .before .before in
+    let x = num (l .before .args .x) in
     let y = num (l .before .args .y) in
-    let e : l .loop .i ≡ 64 = omega arith in
-    summed (x .hi) (x .lo) y (l .loop .i) _ _ _ _ e (l .loop .inv .1 (omega arith)) (l .loop .inv .2) (l .loop .inv .3) (t .times-x64 .ensures)
-    (c .xor .ensures)
+    let e : l .loop .i ≡ 32 = omega arith in
+    summed x y (l .loop .i) _ _ _ _ _ _ _ _ _ _ e (l .loop .inv .5) (l .loop .inv .6) (l .loop .inv .7) (l .loop .inv .8)
+    (b32 .times-x32 .ensures) (q .xor .ensures) (d32 .times-x322 .ensures) (s .xor2 .ensures) (t64 .times-x64 .ensures) (c .xor3 .ensures)
 
 pub mul-spec : {M : Type 1} → statement M
 mul-spec =
     tie.close (tie.spec
-    Inv-loop μ-loop loop-holds sub-add shr-add add-requires
-    sub-add-2 shr-add-2 add-requires-2 (λ c κs. search needs) add-i loop-less
-    loop-again (λ c κs. search needs) (λ c κs. search needs) returns)
+    Inv-loop μ-loop loop-holds add-requires add-requires-2 add-requires-3 add-requires-4 (λ c κs. search needs) mul-h mul-l add-i loop-less
+    loop-again (λ c κs. search needs) (λ c κs. search needs) (λ c κs. search needs) (λ c κs. search needs) (λ c κs. search needs)
+    (λ c κs. search needs) returns)
