@@ -33,7 +33,7 @@ abbrev pub Points : {M : Type 1} {𝓤 : URA M} {H : Heap 𝓤} {A : Atoms 𝓤}
 Points {H = H} K W Γ E x i = Reads K W Γ (spotOf _ H E i .0) (spotOf _ H E i .1) zero (vptr (ptr x .0) (ptr x .1))
 
 module _ {M : Type 1} {𝓤 : URA M} {H : Heap 𝓤} {A : Atoms 𝓤} {K : Type 0} {W : Given 𝓤 H A} {Γ : List (Item 𝓤)} {E : Env 𝓤 H} {C : Calls 𝓤 H}
-  {Λ : Loops 𝓤 H} {q : Post 𝓤 H} {rest : Code} {κ : Lft} {s : Share} where
+    {Λ : Loops 𝓤 H} {q : Post 𝓤 H} {rest : Code} {κ : Lft} {s : Share} where
   -- its rights, or its records, copied into the local d that lies at place n of the rest
   pub takes-rights : K → (x : RefT State) → Has state (now x) → {i d l : ℕ} (n : ℕ) → nth 𝓤 H A n Γ ≡ ‵ (froom (rights .ty) l zero)
       → spotOf 𝓤 H E d ≡ (rights .ty, l, zero) → Points K W (State-open κ s x Γ) E x i

@@ -40,7 +40,7 @@ records-in {h} has = record { is = LL.owed S.the-type S′.the-laws h (state .va
 pub with-records : {h : State} {x : Records} → Has state h → Has records x → Has state (withRecords h x)
 with-records {h} {x} has new = record {
   is = LL.owes S.the-type S′.the-laws (withRecords h x)
-    (rights-in has .is, (new .is, LL.owed S.the-type S′.the-laws h (state .val h ∷ []) (has .is) .1 .1));
+      (rights-in has .is, (new .is, LL.owed S.the-type S′.the-laws h (state .val h ∷ []) (has .is) .1 .1));
 }
 
 pub with-rights : {h : State} {x : Rights} → Has state h → Has rights x → Has state (withRights h x)

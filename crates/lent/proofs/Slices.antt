@@ -47,7 +47,7 @@ module _ {M : Type 1} {𝓤 : URA M} {H : Heap 𝓤} {A : Atoms 𝓤} {K : Type 
 -- A slice reference is made in two statements: the address of what lies at a place goes into the local d, at place m of the context, and that
 -- pointer and a count into the local e, at place k.
 module _ {M : Type 1} {𝓤 : URA M} {H : Heap 𝓤} {A : Atoms 𝓤} {K : Type 0} {W : Given 𝓤 H A} {Γ : List (Item 𝓤)} {E : Env 𝓤 H} {C : Calls 𝓤 H}
-  {Λ : Loops 𝓤 H} {q : Post 𝓤 H} {rest : Code} where
+    {Λ : Loops 𝓤 H} {q : Post 𝓤 H} {rest : Code} where
   pub makes-slice : K → (m k : ℕ) {P : Place} {X : Operand} {d e ld le : ℕ} {ℓ ℓ′ : Lifetime} {μ μ′ : Mutability} {σ σ′ : Ty} {sp : Spot 𝓤 H} {z : ℕ}
       → z < 2 ^ 64 → Finds K W Γ E P sp → spotOf 𝓤 H E d ≡ (tyRef ℓ μ σ, ld, zero) → spotOf 𝓤 H E e ≡ (sliceTy (tyRef ℓ′ μ′ σ′), le, zero)
       → nth 𝓤 H A m Γ ≡ ‵ (froom (tyRef ℓ μ σ) ld zero)
@@ -59,8 +59,8 @@ module _ {M : Type 1} {𝓤 : URA M} {H : Heap 𝓤} {A : Atoms 𝓤} {K : Type 
   makes-slice t m k {P} {X} {d} {e} {ld} {le} {ℓ} {ℓ′} {μ} {μ′} {σ} {σ′} {sp} fits at spot-d spot-e room-d count at-d room-e = step (λ s.
       assigns t (addr t at) (subst (λ (to : Spot 𝓤 H). Finds K W Γ E (place d []) to) spot-d (from t (stop t))) (init t m room-d (tt, tt)) $
       assigns t (agg t (and-then t (load t (subst (λ (to : Spot 𝓤 H). Finds K W Γ₁ E (place d []) to) spot-d (from t (stop t))) (look t m at-d))
-        (and-then t count (no-more t)))) (subst (λ (to : Spot 𝓤 H). Finds K W Γ₁ E (place e []) to) spot-e (from t (stop t)))
-        (init t k room-e (tt, (tt, (record { fits = fits }, tt)))) $ s)
+      (and-then t count (no-more t)))) (subst (λ (to : Spot 𝓤 H). Finds K W Γ₁ E (place e []) to) spot-e (from t (stop t)))
+      (init t k room-e (tt, (tt, (record { fits = fits }, tt)))) $ s)
     where
       Γ₁ : List (Item 𝓤)
       Γ₁ = put 𝓤 H A m (pointer (tyRef ℓ μ σ) ld (sp .1, sp .2)) Γ

@@ -124,7 +124,7 @@ stayed T ps = stays (T .signature .params) (T .kept) ps
 -- what a walk is handed: that the table of calls is monotone, the lifetimes, the shares of their tokens, the arguments with their relations, and that
 -- the arguments' machine values fit their locals
 pub record Entered {M : Type 1} {𝓤 : URA M} {H : Heap 𝓤} {A : Atoms 𝓤} (W : Given 𝓤 H A) (C : Calls 𝓤 H) (T : Ended) (c : Clauses 𝓤 T)
-  (ps : Params (T .signature .params) (T .kept)) : Type 2 where
+    (ps : Params (T .signature .params) (T .kept)) : Type 2 where
   pub fm : FmC 𝓤 H (W .laws) C
   pub κs : Lfts (T .signature .lifetimes)
   pub qs : Shares (T .signature .lifetimes)
@@ -135,7 +135,7 @@ pub record Entered {M : Type 1} {𝓤 : URA M} {H : Heap 𝓤} {A : Atoms 𝓤} 
   pub fits : Typed (mirs (typesAt (T .signature .params) κs)) (flat (typesAt (T .signature .params) κs) (passed T ps κs a))
 
 module _ {M : Type 1} {𝓤 : URA M} {H : Heap 𝓤} {A : Atoms 𝓤} {W : Given 𝓤 H A} {C : Calls 𝓤 H} {T : Ended} {c : Clauses 𝓤 T}
-  {ps : Params (T .signature .params) (T .kept)} (w : Entered W C T c ps) where
+    {ps : Params (T .signature .params) (T .kept)} (w : Entered W C T c ps) where
   abbrev bound : walkOf 𝓤 H A T (stayed T ps) c .Ghost
   bound = ((w .κs, w .qs, w .bounds, w .a, passed T ps (w .κs) (w .a)), w .g)
 
@@ -158,7 +158,7 @@ module _ {M : Type 1} {𝓤 : URA M} {H : Heap 𝓤} {A : Atoms 𝓤} {K : Type 
       → (ws : Lasts T (w .κs) (w .a)) → Fit T (stayed T ps) (w .κs) (w .a) ws
       → {φ : Type 0} → φ → ent 𝓤 (fact 𝓤 φ) (c (w .κs) (w .a) .ensures (w .g) r (atExit T (w .κs) (w .a) ws))
       → Step K W Γ (prop (sep 𝓤 (alive 𝓤 H A (T .signature) (w .κs) (w .qs))
-        (sem 𝓤 H A (hasOf (w .κs) (T .signature .params) (T .kept) (stayed T ps) (w .a) ws (passed T ps (w .κs) (w .a))))))
+      (sem 𝓤 H A (hasOf (w .κs) (T .signature .params) (T .kept) (stayed T ps) (w .a) ws (passed T ps (w .κs) (w .a))))))
       Γ (prop (goal w (R .val r)))
   ends t {T = T} {c = c} {ps = ps} w R {r} has ws fit {φ} x said =
       let own : Fml = typeAt (T .signature .result) (w .κs) .own r (R .val r ∷ []) in
@@ -167,9 +167,9 @@ module _ {M : Type 1} {𝓤 : URA M} {H : Heap 𝓤} {A : Atoms 𝓤} {K : Type 
       let all : SProp 𝓤 = sep 𝓤 live (sep 𝓤 (sem 𝓤 H A had) (sem 𝓤 H A own)) in
       step (λ s. record {
         prf = via 𝓤 (sep 𝓤 live (sem 𝓤 H A had)) (s .prf) (qed W (raw live ∷ ‵ had ∷ []) ∵
-          suffices ! _ (ends-at 𝓤 H A T (stayed T ps) c W (bound w) (R .val r) r ws fit) $
-          suffices ! (sep 𝓤 all (fact 𝓤 φ)) (monoR 𝓤 all said) $ says ! x $
-          frame ! $ frame ! $ use0 W (‵ own) (R .makes 𝓤 H A W r (R .val r ∷ []) (has .is)) $ done !);
+            suffices ! _ (ends-at 𝓤 H A T (stayed T ps) c W (bound w) (R .val r) r ws fit) $
+            suffices ! (sep 𝓤 all (fact 𝓤 φ)) (monoR 𝓤 all said) $ says ! x $
+            frame ! $ frame ! $ use0 W (‵ own) (R .makes 𝓤 H A W r (R .val r ∷ []) (has .is)) $ done !);
       })
 
 -- the tie: a walk of the function's MIR, from the tokens and what each parameter owns, gives the contract of the routine
@@ -182,7 +182,7 @@ module _ {M : Type 1} (𝓤 : URA M) (H : Heap 𝓤) (𝓜 : Model 𝓤 H) (𝓖
 
   pub proves : (T : Ended) (ps : Params (T .signature .params) (T .kept)) (c : Clauses 𝓤 T) (k : Name) (f : Fn) → Closed 𝓤 H C Λ k f
       → ((w : Entered (givenOf 𝓤 H 𝓜 𝓖) C T c ps) → Seq (Go {0}) (givenOf 𝓤 H 𝓜 𝓖) (at-entry w)
-        (prop (WpFn 𝓤 H C Λ f (flat (typesAt (T .signature .params) (w .κs)) (passed T ps (w .κs) (w .a))) (goal w))))
+      (prop (WpFn 𝓤 H C Λ f (flat (typesAt (T .signature .params) (w .κs)) (passed T ps (w .κs) (w .a))) (goal w))))
       → Triple 𝓤 (C k) (tripleOf 𝓤 H (𝓖 .A) (T .signature) (closing 𝓤 H (𝓖 .A) T c))
   unfolding tablesOf
   proves T ps c k f closed walk =
@@ -194,11 +194,17 @@ module _ {M : Type 1} (𝓤 : URA M) (H : Heap 𝓤) (𝓜 : Model 𝓤 H) (𝓖
       entered 𝓤 H (tripleOf 𝓤 H A (T .signature) (closing 𝓤 H A T c)) C Λ k f closed
       (walk-meets 𝓤 H A T (stayed T ps) W (all-go 𝓤 H A W ss (T .kept) ps) c (WpFn 𝓤 H C Λ f) (WpFn-mono 𝓤 H (W .laws) 𝓣 f)
       (walked 𝓤 H A T (stayed T ps) c (WpFn 𝓤 H C Λ f) (spells ss (T .kept) ps) (all-tell ss (T .kept) ps) (λ κs qs bounds a g are.
-        let held : List (Item 𝓤) = owned-by (typesAt ss κs) a (passed T ps κs a) in
-        via 𝓤 (onEntry 𝓤 H A (T .signature) κs qs a (passed T ps κs a)) (fst∗ 𝓤 _ (c κs a .requires g))
-        (via 𝓤 (⋆ 𝓤 H A (tokens n κs qs ++ held)) (via 𝓤 (sep 𝓤 (⋆ 𝓤 H A (tokens n κs qs)) (⋆ 𝓤 H A held))
-          (mono∗ 𝓤 (tokens-out 𝓤 H A n κs qs) (owned-out 𝓤 H A (typesAt ss κs) a (passed T ps κs a))) (++⊢ 𝓤 H A (tokens n κs qs) held))
-        (walk (record {
-          fm = fmOf 𝓤 H (W .laws) 𝓣; κs = κs; qs = qs; bounds = bounds; a = a; g = g; are = are;
-          fits = all-typed 𝓤 H A (typesAt ss κs) (lawfuls 𝓤 H A W ss (T .kept) ps κs) a (passed T ps κs a) are;
-        }) .prf)))))
+      let held : List (Item 𝓤) = owned-by (typesAt ss κs) a (passed T ps κs a) in
+      via 𝓤 (onEntry 𝓤 H A (T .signature) κs qs a (passed T ps κs a)) (fst∗ 𝓤 _ (c κs a .requires g))
+      (via 𝓤 (⋆ 𝓤 H A (tokens n κs qs ++ held)) (via 𝓤 (sep 𝓤 (⋆ 𝓤 H A (tokens n κs qs)) (⋆ 𝓤 H A held))
+      (mono∗ 𝓤 (tokens-out 𝓤 H A n κs qs) (owned-out 𝓤 H A (typesAt ss κs) a (passed T ps κs a))) (++⊢ 𝓤 H A (tokens n κs qs) held))
+      (walk (record {
+        fm = fmOf 𝓤 H (W .laws) 𝓣;
+        κs = κs;
+        qs = qs;
+        bounds = bounds;
+        a = a;
+        g = g;
+        are = are;
+        fits = all-typed 𝓤 H A (typesAt ss κs) (lawfuls 𝓤 H A W ss (T .kept) ps κs) a (passed T ps κs a) are;
+      }) .prf)))))

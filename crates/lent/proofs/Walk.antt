@@ -84,8 +84,8 @@ module _ {M : Type 1} {𝓤 : URA M} {H : Heap 𝓤} {A : Atoms 𝓤} {K : Type 
   part t n {i} {k} {l} {d} {s} {ν} {τs} {vs} {τ} e spot at = of-opd t (load t
       (from t (subst (λ (sp : Spot 𝓤 H). Walks K W Γ E sp (field k ∷ []) (τ, l, zero + d)) (sym spot) (fld t at (stop t))))
       (look-in t n (subst (λ (j : Item 𝓤). Part K W j s τ l (zero + d) (getV vs k)
-          (λ u. ‵ (fat s (tyStruct ν τs) l zero (vstruct (setV vs k u))))) (sym e)
-        (sub t k at (whole t)))))
+      (λ u. ‵ (fat s (tyStruct ν τs) l zero (vstruct (setV vs k u))))) (sym e)
+      (sub t k at (whole t)))))
 
   pub part² : K → (n : ℕ) {i k m l d c : ℕ} {s : Share} {ν μ : Sym} {τs σs : Tys} {vs us : Vals} {τ : Ty}
       → nth 𝓤 H A n Γ ≡ ‵ (fat s (tyStruct ν τs) l zero (vstruct vs)) → spotOf 𝓤 H E i ≡ (tyStruct ν τs, l, zero)
@@ -94,9 +94,9 @@ module _ {M : Type 1} {𝓤 : URA M} {H : Heap 𝓤} {A : Atoms 𝓤} {K : Type 
   part² t n {i} {k} {m} {l} {d} {c} {s} {ν} {μ} {τs} {σs} {vs} {us} {τ} e spot at same at′ = of-opd t (load t
       (from t (subst (λ (sp : Spot 𝓤 H). Walks K W Γ E sp (field k ∷ field m ∷ []) (τ, l, zero + d + c)) (sym spot) (fld t at (fld t at′ (stop t)))))
       (look-in t n (subst (λ (j : Item 𝓤). Part K W j s τ l (zero + d + c) (getV us m)
-          (λ u. ‵ (fat s (tyStruct ν τs) l zero (vstruct (setV vs k (vstruct (setV us m u))))))) (sym e)
-        (sub t m at′ (subst (λ (u : Val). Part K W (‵ (fat s (tyStruct ν τs) l zero (vstruct vs))) s (tyStruct μ σs) l (zero + d) u
-          (λ w. ‵ (fat s (tyStruct ν τs) l zero (vstruct (setV vs k w))))) same (sub t k at (whole t)))))))
+      (λ u. ‵ (fat s (tyStruct ν τs) l zero (vstruct (setV vs k (vstruct (setV us m u))))))) (sym e)
+      (sub t m at′ (subst (λ (u : Val). Part K W (‵ (fat s (tyStruct ν τs) l zero (vstruct vs))) s (tyStruct μ σs) l (zero + d) u
+      (λ w. ‵ (fat s (tyStruct ν τs) l zero (vstruct (setV vs k w))))) same (sub t k at (whole t)))))))
 
 -- an operand of a call that is a whole local i, which lies at place n, and those after it
 pub copies : {M : Type 1} {𝓤 : URA M} {H : Heap 𝓤} {A : Atoms 𝓤} {K : Type 0} {W : Given 𝓤 H A} {Γ : List (Item 𝓤)} {E : Env 𝓤 H} → K

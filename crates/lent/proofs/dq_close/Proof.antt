@@ -71,10 +71,10 @@ dq-close-spec 𝓤 H 𝓜 𝓖 𝓡 = proves 𝓤 H 𝓜 𝓖 𝓡 code.env lent
     -- [the open state; _6; …; _0; …; the count; what the host owns]
     had ! (number w16) (record { is = w .are .1 .0 }) $ had ! records (records-in has) $ had ! rights (rights-in has) $
     asks ! (w .fm) callee.ended (callee.clauses 𝓤 H (𝓖 .A) (𝓜 .mem) (𝓡 .run))
-      (cited 𝓤 H _ 𝓜 𝓡 code.env #callee callee-def.routine code.calls-gateway·close (callee-thm.met 𝓤 H 𝓜 𝓖 𝓡))
-      ((tt, tt, tt, (h .rights, (h .records, (n, tt))), (rights .val (h .rights) ∷ [], (records .val (h .records) ∷ [], (vint w16 n ∷ [], tt)))), tt)
-      (id⊢ 𝓤 _) result (λ r ws. r ≡ closing (h .rights) (h .records) n) (λ r ws. id⊢ 𝓤 _)
-      (copies ! 7 refl (copies ! 5 refl (copies ! 13 refl (no-more !)))) 8 refl refl (λ r ws e got. drop ! $
+    (cited 𝓤 H _ 𝓜 𝓡 code.env #callee callee-def.routine code.calls-gateway·close (callee-thm.met 𝓤 H 𝓜 𝓖 𝓡))
+    ((tt, tt, tt, (h .rights, (h .records, (n, tt))), (rights .val (h .rights) ∷ [], (records .val (h .records) ∷ [], (vint w16 n ∷ [], tt)))), tt)
+    (id⊢ 𝓤 _) result (λ r ws. r ≡ closing (h .rights) (h .records) n) (λ r ws. id⊢ 𝓤 _)
+    (copies ! 7 refl (copies ! 5 refl (copies ! 13 refl (no-more !)))) 8 refl refl (λ r ws e got. drop ! $
     keeps-records ! x has (after got) (part ! 8 refl refl refl) (look ! 14 refl) $
     -- [the state; _6; …; _0; …; the count; what the host owns]
     move ! (17 ∷ 18 ∷ 19 ∷ []) $ puts ! (number w64) p (blocks-in (answered got)) (part² ! 11 refl refl refl refl refl) (look ! 13 refl) $
@@ -82,6 +82,6 @@ dq-close-spec 𝓤 H 𝓜 𝓖 𝓡 = proves 𝓤 H 𝓜 𝓖 𝓡 code.env lent
     leaves ! (code.function .locals) bs (_, (_, (_, (_, (_, (_, (_, tt))))))) 6 (look ! 18 refl) refl $
     -- [the count; the state; what the host owns]
     ends ! w (number w8) (number-in (answered got)) (withRecords h (r .records), (tt, (r .answer .blocks, tt))) (tt, (tt, (tt, tt)))
-      (settled h n r e) (id⊢ 𝓤 _) $
+    (settled h n r e) (id⊢ 𝓤 _) $
     move ! (5 ∷ 2 ∷ []) $ gives-tokens ! 2 (w .κs) (w .qs) $ gives-mut ! p $ move ! (1 ∷ 2 ∷ []) $ gives-mut ! x $
     nothing ! $ nothing ! $ keep ! (2 ∷ 0 ∷ 3 ∷ 1 ∷ []) $ done !))))

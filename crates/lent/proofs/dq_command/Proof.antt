@@ -105,11 +105,18 @@ dq-command-spec 𝓤 H 𝓜 𝓖 𝓡 = proves 𝓤 H 𝓜 𝓖 𝓡 code.env le
     -- [the open state; _10; …; _0; …; the order; the count; the tokens of the slices; what the packet and the room own]
     has-parts ! has $ move ! (34 ∷ 35 ∷ 0 ∷ 1 ∷ 36 ∷ 37 ∷ []) $
     asks ! (w .fm) callee.ended (callee.clauses 𝓤 H (𝓖 .A) (𝓜 .mem) (𝓡 .run))
-      (cited 𝓤 H _ 𝓜 𝓡 code.env #callee callee-def.routine code.calls-gateway·command (callee-thm.met 𝓤 H 𝓜 𝓖 𝓡))
-      (((w .κs .1 .0, (w .κs .1 .1 .0, tt)), (w .qs .1 .0, (w .qs .1 .1 .0, tt)), tt, (h .rights, (h .records, (i, (o, tt)))),
-      (rights .val (h .rights) ∷ [], (records .val (h .records) ∷ [], (slice-vals i, (slice-vals o, tt))))), tt)
-      (id⊢ 𝓤 _) result (λ r ws. Said h (now i) (now o) r (ws .1 .1 .1 .0)) (λ r ws. id⊢ 𝓤 _)
-      (copies ! 11 refl (copies ! 9 refl (copies ! 21 refl (copies ! 5 refl (no-more !))))) 12 refl refl (λ r ws e got.
+    (cited 𝓤 H _ 𝓜 𝓡 code.env #callee callee-def.routine code.calls-gateway·command (callee-thm.met 𝓤 H 𝓜 𝓖 𝓡)) (
+      (
+        (w .κs .1 .0, (w .κs .1 .1 .0, tt)),
+        (w .qs .1 .0, (w .qs .1 .1 .0, tt)),
+        tt,
+        (h .rights, (h .records, (i, (o, tt)))),
+        (rights .val (h .rights) ∷ [], (records .val (h .records) ∷ [], (slice-vals i, (slice-vals o, tt)))),
+      ),
+      tt,
+    )
+    (id⊢ 𝓤 _) result (λ r ws. Said h (now i) (now o) r (ws .1 .1 .1 .0)) (λ r ws. id⊢ 𝓤 _)
+    (copies ! 11 refl (copies ! 9 refl (copies ! 21 refl (copies ! 5 refl (no-more !))))) 12 refl refl (λ r ws e got.
     move ! (2 ∷ []) $ skip ! $ skip ! $ skip ! $ last-list ! (λ l. move ! (3 ∷ 4 ∷ 5 ∷ 6 ∷ []) $
     keeps-records ! x has (after got) (part ! 15 refl refl refl) (look ! 25 refl) $
     -- [the state; the room's last list; the tokens of the slices; _10; …; _0; …; the order; the count]
@@ -119,8 +126,8 @@ dq-command-spec 𝓤 H 𝓜 𝓖 𝓡 = proves 𝓤 H 𝓜 𝓖 𝓡 code.env le
     leaves ! (code.function .locals) bs (_, (_, (_, (_, (_, (_, (_, (_, (_, (_, (_, tt))))))))))) 12 (look ! 32 refl) refl $
     -- [the count; the order; the state; the room's last list; the tokens of the slices]
     ends ! w (number w8) (number-in (answered got))
-      (withRecords h (r .records), (tt, (ws .1 .1 .1 .0, (r .heard .order, (r .heard .blocks, tt))))) (tt, (tt, (l, (tt, (tt, tt)))))
-      (settled h (now i) (now o) r (ws .1 .1 .1 .0) e) (id⊢ 𝓤 _) $
+    (withRecords h (r .records), (tt, (ws .1 .1 .1 .0, (r .heard .order, (r .heard .blocks, tt))))) (tt, (tt, (l, (tt, (tt, tt)))))
+    (settled h (now i) (now o) r (ws .1 .1 .1 .0) e) (id⊢ 𝓤 _) $
     move ! (8 ∷ 10 ∷ 11 ∷ 5 ∷ 2 ∷ []) $ gives-tokens ! 5 (w .κs) (w .qs) $ gives-mut ! p $ move ! (1 ∷ 2 ∷ []) $ gives-mut ! d $
     move ! (2 ∷ 3 ∷ []) $ gives-mut ! x $
     nothing ! $ nothing ! $ keep ! (2 ∷ 0 ∷ 5 ∷ 3 ∷ 4 ∷ 1 ∷ []) $ done !)))))

@@ -73,9 +73,9 @@ dq-load-spec 𝓤 H 𝓜 𝓖 𝓡 = proves 𝓤 H 𝓜 𝓖 𝓡 code.env lent.
     enter ! _ _ _ _ _ $ starts ! (w .fits) (λ bs. move ! (22 ∷ 21 ∷ []) $
     -- [the book's token; what the book owns; _5; …; _0; …; the state; the offset; the count]
     asks ! (w .fm) callee.ended (callee.clauses 𝓤 H (𝓖 .A) (𝓜 .mem) (𝓡 .run))
-      (cited 𝓤 H _ 𝓜 𝓡 code.env #callee callee-def.routine code.calls-book·load (callee-thm.met 𝓤 H 𝓜 𝓖 𝓡))
-      (((w .κs .1 .0, tt), (w .qs .1 .0, tt), tt, (b, tt), (slice-vals b, tt)), tt) (id⊢ 𝓤 _) result (λ r ws. r ≡ loaded (now b)) (λ r ws. id⊢ 𝓤 _)
-      (copies ! 7 refl (no-more !)) 0 refl refl (λ r ws e got. move ! (1 ∷ []) $ drop ! $
+    (cited 𝓤 H _ 𝓜 𝓡 code.env #callee callee-def.routine code.calls-book·load (callee-thm.met 𝓤 H 𝓜 𝓖 𝓡))
+    (((w .κs .1 .0, tt), (w .qs .1 .0, tt), tt, (b, tt), (slice-vals b, tt)), tt) (id⊢ 𝓤 _) result (λ r ws. r ≡ loaded (now b)) (λ r ws. id⊢ 𝓤 _)
+    (copies ! 7 refl (no-more !)) 0 refl refl (λ r ws e got. move ! (1 ∷ []) $ drop ! $
     -- [the book's token; _5; …; _0; …; the state; the offset; the count]
     move ! (13 ∷ 14 ∷ 15 ∷ []) $ puts ! state x (state-of got) (part ! 5 refl refl refl) (look ! 13 refl) $
     move ! (16 ∷ 17 ∷ 18 ∷ []) $ puts ! (number w64) o (offset-of got) (part ! 8 refl refl refl) (look ! 12 refl) $

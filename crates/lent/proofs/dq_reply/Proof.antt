@@ -84,12 +84,19 @@ dq-reply-spec 𝓤 H 𝓜 𝓖 𝓡 = proves 𝓤 H 𝓜 𝓖 𝓡 code.env lent
     -- [the open state; _11; …; _0; …; the count; the tokens of the slices; what the numbers, the payload and the room own]
     has-parts ! has $ move ! (33 ∷ 34 ∷ 0 ∷ 1 ∷ 35 ∷ 36 ∷ 37 ∷ 38 ∷ []) $
     asks ! (w .fm) callee.ended (callee.clauses 𝓤 H (𝓖 .A) (𝓜 .mem) (𝓡 .run))
-      (cited 𝓤 H _ 𝓜 𝓡 code.env #callee callee-def.routine code.calls-gateway·reply (callee-thm.met 𝓤 H 𝓜 𝓖 𝓡))
-      (((w .κs .1 .0, (w .κs .1 .1 .0, tt)), (w .qs .1 .0, (w .qs .1 .1 .0, tt)), tt, (h .rights, (h .records, (n, (m, (i, (o, tt)))))),
-      (rights .val (h .rights) ∷ [], (records .val (h .records) ∷ [], (vint w16 n ∷ [], (vint w16 m ∷ [], (slice-vals i, (slice-vals o, tt))))))), tt)
-      (id⊢ 𝓤 _) result (λ r ws. Said h n m (now i) (now o) r (ws .1 .1 .1 .1 .1 .0)) (λ r ws. id⊢ 𝓤 _)
-      (copies ! 11 refl (copies ! 9 refl (copies ! 23 refl (copies ! 21 refl (copies ! 19 refl (copies ! 5 refl (no-more !)))))))
-      12 refl refl (λ r ws e got.
+    (cited 𝓤 H _ 𝓜 𝓡 code.env #callee callee-def.routine code.calls-gateway·reply (callee-thm.met 𝓤 H 𝓜 𝓖 𝓡)) (
+      (
+        (w .κs .1 .0, (w .κs .1 .1 .0, tt)),
+        (w .qs .1 .0, (w .qs .1 .1 .0, tt)),
+        tt,
+        (h .rights, (h .records, (n, (m, (i, (o, tt)))))),
+        (rights .val (h .rights) ∷ [], (records .val (h .records) ∷ [], (vint w16 n ∷ [], (vint w16 m ∷ [], (slice-vals i, (slice-vals o, tt)))))),
+      ),
+      tt,
+    )
+    (id⊢ 𝓤 _) result (λ r ws. Said h n m (now i) (now o) r (ws .1 .1 .1 .1 .1 .0)) (λ r ws. id⊢ 𝓤 _)
+    (copies ! 11 refl (copies ! 9 refl (copies ! 23 refl (copies ! 21 refl (copies ! 19 refl (copies ! 5 refl (no-more !)))))))
+    12 refl refl (λ r ws e got.
     move ! (2 ∷ []) $ skip ! $ skip ! $ skip ! $ skip ! $ skip ! $ last-list ! (λ l. move ! (3 ∷ 4 ∷ 5 ∷ 6 ∷ []) $
     keeps-records ! x has (after got) (part ! 15 refl refl refl) (look ! 27 refl) $
     -- [the state; the room's last list; the tokens of the slices; _11; …; _0; …; the count]
@@ -98,7 +105,7 @@ dq-reply-spec 𝓤 H 𝓜 𝓖 𝓡 = proves 𝓤 H 𝓜 𝓖 𝓡 code.env lent
     leaves ! (code.function .locals) bs (_, (_, (_, (_, (_, (_, (_, (_, (_, (_, (_, (_, tt)))))))))))) 9 (look ! 31 refl) refl $
     -- [the count; the state; the room's last list; the tokens of the slices]
     ends ! w (number w8) (number-in (answered got))
-      (withRecords h (r .records), (tt, (tt, (tt, (ws .1 .1 .1 .1 .1 .0, (r .answer .blocks, tt)))))) (tt, (tt, (tt, (tt, (l, (tt, tt))))))
-      (settled h n m (now i) (now o) r (ws .1 .1 .1 .1 .1 .0) e) (id⊢ 𝓤 _) $
+    (withRecords h (r .records), (tt, (tt, (tt, (ws .1 .1 .1 .1 .1 .0, (r .answer .blocks, tt)))))) (tt, (tt, (tt, (tt, (l, (tt, tt))))))
+    (settled h n m (now i) (now o) r (ws .1 .1 .1 .1 .1 .0) e) (id⊢ 𝓤 _) $
     move ! (5 ∷ 7 ∷ 8 ∷ 2 ∷ []) $ gives-tokens ! 4 (w .κs) (w .qs) $ gives-mut ! p $ move ! (1 ∷ 2 ∷ []) $ gives-mut ! x $
     nothing ! $ nothing ! $ nothing ! $ nothing ! $ keep ! (4 ∷ 0 ∷ 1 ∷ 2 ∷ 6 ∷ 5 ∷ 3 ∷ []) $ done !)))))

@@ -93,13 +93,25 @@ dq-request-spec 𝓤 H 𝓜 𝓖 𝓡 = proves 𝓤 H 𝓜 𝓖 𝓡 code.env le
     -- [the token and the slice of the names; what is kept of the state; _13; …; _0; …; the host; the count; the slices' tokens; what the slices own]
     has-parts ! has $ move ! (2 ∷ 42 ∷ 43 ∷ 44 ∷ 0 ∷ 1 ∷ 3 ∷ 45 ∷ 46 ∷ 47 ∷ []) $
     asks ! (w .fm) callee.ended (callee.clauses 𝓤 H (𝓖 .A) (𝓜 .mem) (𝓡 .run))
-      (cited 𝓤 H _ 𝓜 𝓡 code.env #callee callee-def.routine code.calls-gateway·request (callee-thm.met 𝓤 H 𝓜 𝓖 𝓡))
-      (((α ∷ [], (w .κs .1 .0, (w .κs .1 .1 .0, (w .κs .1 .1 .1 .0, tt)))), (fullShare, (w .qs .1 .0, (w .qs .1 .1 .0, (w .qs .1 .1 .1 .0, tt)))), tt,
-      (h .rights, (h .records, (names-at x γ, (i, (j, (o, tt)))))), (rights .val (h .rights) ∷ [], (records .val (h .records) ∷ [],
-      (slice-vals (names-at x γ), (slice-vals i, (slice-vals j, (slice-vals o, tt))))))), tt)
-      (id⊢ 𝓤 _) result (λ r ws. Said h (now i) (now j) (now o) r (ws .1 .1 .1 .1 .1 .0)) (λ r ws. id⊢ 𝓤 _)
-      (copies ! 15 refl (copies ! 13 refl (copies ! 9 refl (copies ! 27 refl (copies ! 25 refl (copies ! 5 refl (no-more !)))))))
-      16 refl refl (λ r ws e got.
+    (cited 𝓤 H _ 𝓜 𝓡 code.env #callee callee-def.routine code.calls-gateway·request (callee-thm.met 𝓤 H 𝓜 𝓖 𝓡)) (
+      (
+        (α ∷ [], (w .κs .1 .0, (w .κs .1 .1 .0, (w .κs .1 .1 .1 .0, tt)))),
+        (fullShare, (w .qs .1 .0, (w .qs .1 .1 .0, (w .qs .1 .1 .1 .0, tt)))),
+        tt,
+        (h .rights, (h .records, (names-at x γ, (i, (j, (o, tt)))))),
+        (
+          rights .val (h .rights) ∷ [],
+          (
+            records .val (h .records) ∷ [],
+            (slice-vals (names-at x γ), (slice-vals i, (slice-vals j, (slice-vals o, tt)))),
+          ),
+        ),
+      ),
+      tt,
+    )
+    (id⊢ 𝓤 _) result (λ r ws. Said h (now i) (now j) (now o) r (ws .1 .1 .1 .1 .1 .0)) (λ r ws. id⊢ 𝓤 _)
+    (copies ! 15 refl (copies ! 13 refl (copies ! 9 refl (copies ! 27 refl (copies ! 25 refl (copies ! 5 refl (no-more !)))))))
+    16 refl refl (λ r ws e got.
     move ! (4 ∷ []) $ skip ! $ skip ! $ skip ! $ skip ! $ skip ! $ last-list ! (λ l. move ! (1 ∷ 5 ∷ []) $ names-back ! tt x α $
     move ! (0 ∷ 5 ∷ 6 ∷ 7 ∷ []) $
     keeps-records ! x has (after got) (part ! 20 refl refl refl) (look ! 32 refl) $
@@ -110,8 +122,8 @@ dq-request-spec 𝓤 H 𝓜 𝓖 𝓡 = proves 𝓤 H 𝓜 𝓖 𝓡 code.env le
     leaves ! (code.function .locals) bs (_, (_, (_, (_, (_, (_, (_, (_, (_, (_, (_, (_, (_, (_, tt)))))))))))))) 13 (look ! 39 refl) refl $
     -- [the count; the host; the state; the room's last list; the slices' tokens]
     ends ! w (number w8) (number-in (answered got))
-      (withRecords h (r .records), (tt, (tt, (ws .1 .1 .1 .1 .1 .0, (r .host, (r .answer .blocks, tt)))))) (tt, (tt, (tt, (l, (tt, (tt, tt))))))
-      (settled h (now i) (now j) (now o) r (ws .1 .1 .1 .1 .1 .0) e) (id⊢ 𝓤 _) $
+    (withRecords h (r .records), (tt, (tt, (ws .1 .1 .1 .1 .1 .0, (r .host, (r .answer .blocks, tt)))))) (tt, (tt, (tt, (l, (tt, (tt, tt))))))
+    (settled h (now i) (now j) (now o) r (ws .1 .1 .1 .1 .1 .0) e) (id⊢ 𝓤 _) $
     move ! (8 ∷ 10 ∷ 11 ∷ 12 ∷ 5 ∷ 2 ∷ []) $ gives-tokens ! 6 (w .κs) (w .qs) $ gives-mut ! p $ move ! (1 ∷ 2 ∷ []) $ gives-mut ! d $
     move ! (2 ∷ 3 ∷ []) $ gives-mut ! x $
     nothing ! $ nothing ! $ nothing ! $ keep ! (3 ∷ 0 ∷ 1 ∷ 6 ∷ 4 ∷ 5 ∷ 2 ∷ []) $ done !))))))

@@ -74,10 +74,10 @@ dq-revoke-spec 𝓤 H 𝓜 𝓖 𝓡 = proves 𝓤 H 𝓜 𝓖 𝓡 code.env len
     had ! (number w64) (record { is = w .are .1 .1 .1 .0 }) $ had ! (number w16) (record { is = w .are .1 .1 .0 }) $
     had ! (number w16) (record { is = w .are .1 .0 }) $ had ! rights (rights-in has) $
     asks ! (w .fm) callee.ended (callee.clauses 𝓤 H (𝓖 .A) (𝓜 .mem) (𝓡 .run))
-      (cited 𝓤 H _ 𝓜 𝓡 code.env #callee callee-def.routine code.calls-gateway·revoke (callee-thm.met 𝓤 H 𝓜 𝓖 𝓡))
-      ((tt, tt, tt, (h .rights, (i, (k, (b, tt)))), (rights .val (h .rights) ∷ [], (vint w16 i ∷ [], (vint w16 k ∷ [], (vint w64 b ∷ [], tt))))), tt)
-      (id⊢ 𝓤 _) result (λ r ws. r ≡ revoking (h .rights) i k b) (λ r ws. id⊢ 𝓤 _)
-      (copies ! 5 refl (copies ! 15 refl (copies ! 13 refl (copies ! 11 refl (no-more !))))) 6 refl refl (λ r ws e got. drop ! $
+    (cited 𝓤 H _ 𝓜 𝓡 code.env #callee callee-def.routine code.calls-gateway·revoke (callee-thm.met 𝓤 H 𝓜 𝓖 𝓡))
+    ((tt, tt, tt, (h .rights, (i, (k, (b, tt)))), (rights .val (h .rights) ∷ [], (vint w16 i ∷ [], (vint w16 k ∷ [], (vint w64 b ∷ [], tt))))), tt)
+    (id⊢ 𝓤 _) result (λ r ws. r ≡ revoking (h .rights) i k b) (λ r ws. id⊢ 𝓤 _)
+    (copies ! 5 refl (copies ! 15 refl (copies ! 13 refl (copies ! 11 refl (no-more !))))) 6 refl refl (λ r ws e got. drop ! $
     keeps-rights ! x has (after got) (part ! 6 refl refl refl) (look ! 16 refl) $
     -- [the state; _7; …; _0; …; the count; what the numbers own]
     move ! (19 ∷ 20 ∷ 21 ∷ []) $ puts ! (number w64) p (blocks-in (answered got)) (part² ! 9 refl refl refl refl refl) (look ! 11 refl) $
@@ -85,6 +85,6 @@ dq-revoke-spec 𝓤 H 𝓜 𝓖 𝓡 = proves 𝓤 H 𝓜 𝓖 𝓡 code.env len
     leaves ! (code.function .locals) bs (_, (_, (_, (_, (_, (_, (_, (_, tt)))))))) 6 (look ! 20 refl) refl $
     -- [the count; the state; what the numbers own]
     ends ! w (number w8) (number-in (answered got)) (withRights h (r .rights), (tt, (tt, (tt, (r .answer .blocks, tt)))))
-      (tt, (tt, (tt, (tt, (tt, tt))))) (settled h i k b r e) (id⊢ 𝓤 _) $
+    (tt, (tt, (tt, (tt, (tt, tt))))) (settled h i k b r e) (id⊢ 𝓤 _) $
     move ! (5 ∷ 2 ∷ []) $ gives-tokens ! 2 (w .κs) (w .qs) $ gives-mut ! p $ move ! (1 ∷ 2 ∷ []) $ gives-mut ! x $
     nothing ! $ nothing ! $ nothing ! $ nothing ! $ keep ! (4 ∷ 0 ∷ 1 ∷ 2 ∷ 5 ∷ 3 ∷ []) $ done !))))
