@@ -5,7 +5,8 @@
  * of host N. Without ports, the system picks them. Standard input is the console (console.c).
  * Exit status: 0 it was told to end; 1 it couldn't start, or not go on.
  *
- * One thread, one poll(), one state that is lent to every call. All that the box keeps stands in `box`; the heap is OpenSSL's alone.
+ * One thread, one poll(), one state that is lent to every call. All that the box keeps stands in `box`. It takes nothing from the heap itself;
+ * OpenSSL does, for keys and RSA, and the C library, for the files that are read at the start.
  */
 #include <errno.h>
 #include <openssl/crypto.h>
@@ -71,11 +72,16 @@ static void tell(const struct channel *c, const char *what) {
     puts(what);
 }
 
-/* Says what a call of the library has answered. A state that isn't sound can't be mended: somebody has written over the box's memory, so it ends. */
+/* A state that isn't sound can't be mended: somebody has written over the box's memory, so it ends. */
+static void mind(uint8_t number) {
+    box.failed = box.failed || number == DQ_UNSOUND;
+}
+
+/* Says what a call of the library has answered. */
 static void tell_number(const struct channel *c, const char *call, uint8_t number) {
     about(c);
     printf("%s: %u %s\n", call, number, in_words(number));
-    box.failed = box.failed || number == DQ_UNSOUND;
+    mind(number);
 }
 
 /* ---- channels */
@@ -251,9 +257,9 @@ static bool hear_command(struct channel *c) {
         c->host = order.client;
     }
     tell_number(c, "command", number);
-    if (number != DQ_ACCEPTED)
-        return number > DQ_TAG_WRONG;
-    return reply(c, &order, carry_out(&order, box.payload));
+    bool stays = number == DQ_ACCEPTED ? reply(c, &order, carry_out(&order, box.payload)) : number > DQ_TAG_WRONG;
+    OPENSSL_cleanse(&order, sizeof order);
+    return stays;
 }
 
 /* ---- the loop */
@@ -275,7 +281,10 @@ static void hear(struct channel *c) {
 }
 
 static bool obey(char *line) {
-    return console(&box.state, line);
+    uint8_t number;
+    bool going = console(&box.state, line, &number);
+    mind(number);
+    return going && !box.failed;
 }
 
 static void watch(struct pollfd polls[WATCHED]) {
@@ -320,8 +329,10 @@ static bool fail(const char *what) {
 static bool load_book(const char *file) {
     static uint8_t book[DQ_BOOK_MOST + 1]; /* one more, so that a longer one is seen to be */
     size_t length, offset, blocks;
-    if (!file_read(file, book, sizeof book, &length))
+    if (!file_read(file, book, sizeof book, &length)) {
+        OPENSSL_cleanse(book, sizeof book);
         return fail("the book can't be read");
+    }
     uint8_t number = dq_load(&box.state, book, length, &offset, &blocks);
     OPENSSL_cleanse(book, sizeof book);
     if (number == DQ_ACCEPTED)
@@ -378,7 +389,10 @@ static void end_channels(void) {
         close(box.command);
 }
 
-/* Nothing that is secret stays in memory. */
+/*
+ * Wipes what the box keeps, and has OpenSSL free the keys. Copies that the library's calls made on the stack aren't wiped, nor the buffer of what is
+ * printed; and a signal ends the box before it comes here.
+ */
 static void forget(void) {
     for (size_t i = 0; i < HOSTS; i++)
         EVP_PKEY_free(box.machine[i]);

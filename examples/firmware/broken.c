@@ -5,6 +5,7 @@
 #include <stdlib.h>
 #include <string.h>
 #include <sys/socket.h>
+#include <sys/stat.h>
 
 #include "deebqoshaan.h"
 #include "frames.h"
@@ -14,9 +15,11 @@ static bool fault(const char *name) {
     return chosen != NULL && strcmp(chosen, name) == 0;
 }
 
-/* deaf: revocations aren't passed on. */
+/* deaf: revocations aren't passed on. unsound: somebody has written over the state. */
 uint8_t __real_dq_revoke(dq_state *state, uint16_t interface_id, uint16_t entry, uint64_t word, size_t *blocks);
 uint8_t __wrap_dq_revoke(dq_state *state, uint16_t interface_id, uint16_t entry, uint64_t word, size_t *blocks) {
+    if (fault("unsound"))
+        state->rights.hosts = UINT16_MAX;
     return __real_dq_revoke(state, interface_id, entry, fault("deaf") ? UINT64_MAX : word, blocks);
 }
 
@@ -28,8 +31,8 @@ uint8_t __wrap_dq_close(dq_state *state, uint16_t host, size_t *blocks) {
 }
 
 /*
- * stale: a packet that comes a second time is accepted. remembers: a command that isn't permitted is accepted, as an earlier one was. unsound:
- * somebody has written over the state.
+ * stale: a packet that comes a second time is accepted. remembers: a command that isn't permitted is accepted, as an earlier one was. unsound: as
+ * above.
  */
 uint8_t __real_dq_command(dq_state *state, const uint8_t *packet, size_t packet_length, uint8_t *room, size_t room_length, dq_order *order,
                           size_t *blocks);
@@ -67,19 +70,35 @@ uint8_t __wrap_dq_narrow(const uint8_t *capability, size_t capability_length, ui
     return number;
 }
 
+/* others-read: a file that was there before keeps its rights. */
+int __real_fchmod(int file, mode_t rights);
+int __wrap_fchmod(int file, mode_t rights) {
+    return fault("others-read") ? 0 : __real_fchmod(file, rights);
+}
+
 /* Has every channel of the program end. */
 static void shut_all(void) {
     for (int file = 3; file < 200; file++)
         shutdown(file, SHUT_RDWR);
 }
 
+/* Whether the frame is the one that was asked about before. */
+static bool same_again(const struct frame *frame) {
+    static struct frame before;
+    bool same = frame->have == before.have && memcmp(frame->bytes, before.bytes, frame->have) == 0;
+    before = *frame;
+    return same;
+}
+
 /*
  * takes-garbage: a frame with a bad length is passed over. garbage-ends-all: it ends everybody's channels. ends: the program ends when a channel
- * does. waits: a read waits for the rest of a frame.
+ * does. waits: a read waits for the rest of a frame. passes-over: a frame that comes twice in a row is heard once.
  */
 enum frame_news __real_frame_read(int socket, struct frame *frame);
 enum frame_news __wrap_frame_read(int socket, struct frame *frame) {
     enum frame_news news = __real_frame_read(socket, frame);
+    if (news == FRAME_WHOLE && fault("passes-over") && same_again(frame))
+        news = FRAME_PART;
     while (news == FRAME_PART && fault("waits"))
         news = __real_frame_read(socket, frame);
     if (news == FRAME_BAD && fault("garbage-ends-all"))

@@ -9,16 +9,17 @@
 
 /* ---- revoke */
 
-static void revoke(dq_state *state, const char *interface_id, const char *entry, const char *word) {
+static uint8_t revoke(dq_state *state, const char *interface_id, const char *entry, const char *word) {
     unsigned long i, j;
     uint64_t kept;
     size_t blocks;
     if (!decimal(interface_id, UINT16_MAX, &i) || !decimal(entry, UINT16_MAX, &j) || !hexadecimal(word, &kept)) {
         puts("console: revoke INTERFACE ENTRY WORD: two decimal numbers, and the hexadecimal word of the commands that stay");
-        return;
+        return DQ_ACCEPTED;
     }
     uint8_t number = dq_revoke(state, (uint16_t)i, (uint16_t)j, kept, &blocks);
     printf("console: revoke interface %lu entry %lu word %016" PRIx64 ": %u %s\n", i, j, kept, number, in_words(number));
+    return number;
 }
 
 /* ---- list: the one place that looks into the state, and it only reads */
@@ -53,13 +54,14 @@ static void list_interfaces(const dq_state *state) {
     }
 }
 
-bool console(dq_state *state, char *line) {
+bool console(dq_state *state, char *line, uint8_t *number) {
     char *words[4];
     split(line, words, 4);
+    *number = DQ_ACCEPTED;
     if (strcmp(words[0], "quit") == 0)
         return false;
     if (strcmp(words[0], "revoke") == 0) {
-        revoke(state, words[1], words[2], words[3]);
+        *number = revoke(state, words[1], words[2], words[3]);
     } else if (strcmp(words[0], "list") == 0) {
         list_hosts(state);
         list_interfaces(state);

@@ -210,13 +210,19 @@ static bool repeat(void) {
     return frame_send(me.command.socket, &me.packet, me.packet_length) || fail("it can't be sent");
 }
 
-/* The number that a reply is for stands in its vector. It is taken if that command waits for one; those before it were answered, or refused. */
+/*
+ * The number that a reply is for stands in its vector. If no command waits for it, it isn't opened: a copy of an earlier reply is as well sealed as
+ * that was. The box answers in order: of the commands before the one answered, each was answered too, or refused.
+ */
 static bool hear_reply(void) {
     static uint8_t room[DQ_PAYLOAD_MOST];
     const uint8_t *reply = frame_message(&me.command.in);
     size_t blocks, payload_length, length = frame_length(&me.command.in);
-    uint16_t said = length < DQ_VECTOR_BYTES ? 0 : sixteen(reply + 2);
-    uint16_t number = said > me.answered && said <= me.sent ? said : me.sent;
+    uint16_t number = length < DQ_VECTOR_BYTES ? 0 : sixteen(reply + 2);
+    if (number <= me.answered || number > me.sent) {
+        printf("reply %u: no command waits for it\n", number);
+        return false;
+    }
     uint8_t answer = dq_open_reply(me.key, sizeof me.key, number, reply, length, room, sizeof room, &payload_length, &blocks);
     printf("reply %u: %u %s", number, answer, in_words(answer));
     if (answer == DQ_ACCEPTED) {
@@ -233,12 +239,11 @@ static bool hear_reply(void) {
 static void take(const char *file) {
     uint8_t room[DQ_CAPABILITY + 1];
     size_t length;
-    if (!file_read(file, room, sizeof room, &length) || length != DQ_CAPABILITY) {
-        puts("there is no capability in that file");
-        return;
-    }
-    memcpy(me.capability, room, DQ_CAPABILITY);
-    puts("taken");
+    bool taken = file_read(file, room, sizeof room, &length) && length == DQ_CAPABILITY;
+    if (taken)
+        memcpy(me.capability, room, DQ_CAPABILITY);
+    OPENSSL_cleanse(room, sizeof room);
+    puts(taken ? "taken" : "there is no capability in that file");
 }
 
 static void narrow(const char *word) {
@@ -249,6 +254,7 @@ static void narrow(const char *word) {
         puts("narrow WORD: a hexadecimal word");
     else if (tell_number("narrow", dq_narrow(me.capability, sizeof me.capability, kept, room, sizeof room, &blocks)))
         memcpy(me.capability, room, sizeof room);
+    OPENSSL_cleanse(room, sizeof room);
 }
 
 static void keep(const char *file) {

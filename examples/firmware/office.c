@@ -12,7 +12,6 @@
 #include <stdio.h>
 #include <stdlib.h>
 #include <string.h>
-#include <sys/stat.h>
 
 #include "deebqoshaan.h"
 #include "lines.h"
@@ -25,7 +24,7 @@ static bool fail(const char *what) {
 }
 
 static bool write_private(const char *file, EVP_PKEY *key) {
-    FILE *open = fopen(file, "w");
+    FILE *open = file_secret(file);
     if (open == NULL)
         return fail("a key can't be written");
     bool done = PEM_write_PrivateKey(open, key, NULL, NULL, 0, NULL, NULL) == 1;
@@ -42,10 +41,7 @@ static bool write_public(const char *file, EVP_PKEY *key) {
 
 static bool draw(const char *private_file, const char *public_file) {
     EVP_PKEY *key = EVP_RSA_gen(RSA_BITS);
-    mode_t mask = umask(S_IRWXG | S_IRWXO);
-    bool done = key != NULL && write_private(private_file, key);
-    umask(mask);
-    done = done && write_public(public_file, key);
+    bool done = key != NULL && write_private(private_file, key) && write_public(public_file, key);
     EVP_PKEY_free(key);
     return done || fail("there is no new key");
 }
@@ -56,12 +52,16 @@ static bool issue(const char *master_file, const char *word, const char *file) {
     unsigned long id;
     if (!decimal(word, UINT16_MAX, &id))
         return fail("an ID is a number up to 65535");
-    if (!file_read(master_file, master, sizeof master, &length))
+    if (!file_read(master_file, master, sizeof master, &length)) {
+        OPENSSL_cleanse(master, sizeof master);
         return fail("the master secret can't be read");
+    }
     uint8_t number = dq_issue(master, length, (uint16_t)id, room, sizeof room, &blocks);
     OPENSSL_cleanse(master, sizeof master);
     printf("issue: %u %s\n", number, in_words(number));
-    return number == DQ_ACCEPTED && (file_write(file, room, sizeof room) || fail("the capability can't be written"));
+    bool done = number == DQ_ACCEPTED && (file_write(file, room, sizeof room) || fail("the capability can't be written"));
+    OPENSSL_cleanse(room, sizeof room);
+    return done;
 }
 
 int main(int count, char **words) {

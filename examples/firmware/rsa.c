@@ -27,6 +27,7 @@ EVP_PKEY *rsa_private(const char *file) {
     FILE *open = fopen(file, "r");
     if (open == NULL)
         return NULL;
+    setvbuf(open, NULL, _IONBF, 0); /* no copy of the key stays in a buffer */
     EVP_PKEY *key = PEM_read_PrivateKey(open, NULL, NULL, NULL);
     fclose(open);
     return only_ours(key);

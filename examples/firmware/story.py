@@ -24,7 +24,7 @@ MACHINES = ["filler", "checkweigher", "labeller", "service panel", "capper"]    
 GROUPS = [1, 1, 1, 2, 0]
 RECIPE, LIMITS, PRINTING = 1, 2, 3                              # interfaces of the dairy's book, and some of their commands
 READ, START, SET_VOLUME, SET_LEAST, PRINT, SET_DATE = 0, 1, 8, 3, 3, 4
-LONGEST = 16384
+LONGEST, LINE_MOST = 16384, 20000                               # a payload's bytes; those of a line that is typed
 
 
 class Otherwise(Exception):
@@ -59,6 +59,11 @@ class Program:
             self.process.stdin.flush()
         except BrokenPipeError:
             raise Otherwise("the %s is gone" % self.called)
+
+    def tell_last(self, line):
+        """A line without a newline, and then the end of its standard input."""
+        self.process.stdin.write(line.encode("ascii"))
+        self.process.stdin.close()
 
     def line(self, wanted):
         """Its next line; `wanted` is for the account if there is none."""
@@ -162,11 +167,11 @@ class Plant:
         self.control = int(self.box.next(r"control port (\d+)")[1])
         self.command = int(self.box.next(r"command port (\d+)")[1])
 
-    def machine(self, name, key=None, group=None):
-        """A machine as a program; `key`: whose private key it has."""
+    def machine(self, name, key=None, group=None, command=None):
+        """A machine as a program; `key`: whose private key it has; `command`: a port in the place of the box's for commands."""
         host = MACHINES.index(name) + 1 if name in MACHINES else 1
         return Program(name, self.program("machine"), name, str(GROUPS[host - 1] if group is None else group),
-                       self.path("machine-%d.pem" % (key or host)), self.path("box-public.pem"), str(self.control), str(self.command))
+                       self.path("machine-%d.pem" % (key or host)), self.path("box-public.pem"), str(self.control), str(command or self.command))
 
     def connect(self, name):
         """Has a machine connect, for the first time or again."""
@@ -294,7 +299,11 @@ def narrowed(plant):
     plant.accepted(labeller, PRINTING, PRINT, "label")
     plant.refused(18, labeller, PRINTING, SET_DATE, "2 March")
     plant.accepted(labeller, PRINTING, READ)
+    with open(plant.path("handed-on"), "wb"):
+        os.chmod(plant.path("handed-on"), 0o644)
     labeller.ask("keep %s" % plant.path("handed-on"), "kept")
+    for name in ("handed-on", "box.pem", os.path.basename(plant.issue(PRINTING, 1))):
+        see(os.stat(plant.path(name)).st_mode & 0o777 == 0o600, "others may read the file %s" % name)
     filler.ask("take %s" % plant.path("handed-on"), "taken")
     plant.accepted(filler, PRINTING, PRINT, "label by the filler")
     plant.refused(18, filler, PRINTING, SET_DATE, "3 March")
@@ -321,12 +330,36 @@ def typed(plant):
     plant.box.ask("revoke 1 4 0", "console: revoke interface 1 entry 4 word 0+: 15 no such entry")
     for line in ("revoke 1 2", "revoke 1 2 x", "revoke 1 -2 0", "revoke 1 2 11112222333344445"):
         plant.box.ask(line, "console: revoke INTERFACE ENTRY WORD: .*")
-    plant.box.ask("hello", "console: the words are .*")
+    for line in ("hello", "h" * LINE_MOST + "revoke 1 2 0"):
+        plant.box.ask(line, "console: the words are .*")
     plant.box.tell("list")
     plant.box.next("console: host 1 group 1 filler: open, last number [0-9]+")
     plant.box.until("console: host 4 group 2 service panel: open, last number [0-9]+")
     plant.box.until("console: interface 1 entry 2 group 2 word 0000000000000001")
     plant.box.until("console: that is all")
+
+
+def doubled(plant):
+    """a reply comes a second time: its machine doesn't open it, and ends its connection"""
+    plant.machines["capper"].ask("close", "closed")
+    plant.box.until("channel [0-9]+, control of host 5: close: 0 accepted")
+    with socket.create_server(("127.0.0.1", 0)) as between:
+        between.settimeout(PATIENCE)
+        capper = plant.machine("capper", command=between.getsockname()[1])
+        capper.ask("connect", "connected as host 5")
+        capper.ask("take %s" % plant.issue(RECIPE, 3), "taken")
+        capper.ask("send %d %d once" % (RECIPE, READ), "sent 1")
+        with between.accept()[0] as near, socket.create_connection(("127.0.0.1", plant.command), timeout=PATIENCE) as far:
+            near.settimeout(PATIENCE)
+            far.sendall(near.makefile("rb").read(2 + 96 + len("once")))
+            near.sendall(2 * far.makefile("rb").read(2 + 32 + len("once")))
+            near.shutdown(socket.SHUT_WR)                       # a machine that says nothing to the second one says something to this
+            plant.judged(0)
+            capper.next("reply 1: 0 accepted: once")
+            capper.next("reply 1: no command waits for it")
+            capper.ask("send %d %d twice" % (RECIPE, READ), "not connected")
+    plant.box.until("channel [0-9]+, (?:control|command) of host 5: close: 0 accepted")
+    plant.connect("capper")
 
 
 def stale(plant):
@@ -409,6 +442,9 @@ def impostors(plant):
     stranger = plant.machine("spare", key=1)
     stranger.ask("connect", "the box has closed the control channel")
     plant.box.until("channel [0-9]+, control of nobody: request: 23 no such host name")
+    stranger.tell_last("close")
+    stranger.next("closed")
+    stranger.ended(0)
     impostor = plant.machine("capper", key=1)
     impostor.ask("connect", "a message that isn't encrypted for this machine")
     plant.box.until("channel [0-9]+, control of host 5: request: 0 accepted")
@@ -466,8 +502,8 @@ def ending(plant):
             see(channel.connect_ex(("127.0.0.1", port)) != 0, "somebody still listens at %d" % port)
 
 
-SCENES = [damaged_books, no_key, connections, ordinary, interleaved, narrowed, revoked, typed, stale, killed, again, garbage, strangers,
-          impostors, crowd, greedy, ending]
+SCENES = [damaged_books, no_key, connections, ordinary, interleaved, narrowed, revoked, typed, doubled, stale, killed, again, garbage,
+          strangers, impostors, crowd, greedy, ending]
 
 
 def play(plant):

@@ -1,6 +1,6 @@
 /*
- * first: the least that links. It loads a book of one host, named "a", lets that host ask for a connection, and shows that a damaged command changes
- * nothing.
+ * first: the least that links. It loads a book of one host, named "a", lets that host ask for a connection, and sees a command refused that comes before
+ * the connection is open.
  */
 #include <stdio.h>
 

@@ -6,14 +6,15 @@ use crate::answer::Made;
 use crate::length;
 use crate::raw;
 use crate::refusal::{Refused, called};
+use crate::secret::Secret;
 
 /// A capability: the ID of an interface's entry, four words, and the secret that vouches for them. Whoever holds its bytes holds its rights.
 ///
 /// A command is permitted if its bit is 1 in the entry's present word and in all four words. Bit c, of value 2^c, stands for command c.
 ///
-/// `Debug` leaves the secret out.
+/// `Debug` leaves the secret out. A dropped capability is wiped; bytes that a move left behind aren't.
 #[derive(Clone, PartialEq, Eq)]
-pub struct Capability([u8; length::CAPABILITY]);
+pub struct Capability(Secret<{ length::CAPABILITY }>);
 
 impl Capability {
     /// Issues a capability for the entry `id` under its interface's master secret: four all-ones words, which take nothing away.
@@ -33,10 +34,11 @@ impl Capability {
     /// # }
     /// ```
     pub fn issue(master: &[u8; length::SECRET], id: u16) -> Result<Made, Refused> {
-        let mut room = [0; length::CAPABILITY];
+        let mut capability = Capability(Secret::zeros());
+        let room = &mut capability.0.0;
         // SAFETY: see `raw`; each pointer comes from a reference, and what is written is borrowed by this call alone.
         let blocks = called(|blocks| unsafe { raw::dq_issue(master.as_ptr(), master.len(), id, room.as_mut_ptr(), room.len(), blocks) })?;
-        Ok(Made { capability: Capability(room), blocks })
+        Ok(Made { capability, blocks })
     }
 
     /// Narrows a capability by a word, without the master secret: the new one permits what both permit. It can be done four times.
@@ -55,10 +57,11 @@ impl Capability {
     /// # }
     /// ```
     pub fn narrow(&self, word: u64) -> Result<Made, Refused> {
-        let mut room = [0; length::CAPABILITY];
+        let mut capability = Capability(Secret::zeros());
+        let (held, room) = (self.as_bytes(), &mut capability.0.0);
         // SAFETY: as above.
-        let blocks = called(|blocks| unsafe { raw::dq_narrow(self.0.as_ptr(), self.0.len(), word, room.as_mut_ptr(), room.len(), blocks) })?;
-        Ok(Made { capability: Capability(room), blocks })
+        let blocks = called(|blocks| unsafe { raw::dq_narrow(held.as_ptr(), held.len(), word, room.as_mut_ptr(), room.len(), blocks) })?;
+        Ok(Made { capability, blocks })
     }
 
     /// The capability of these bytes, as its holder handed it on. Nothing is judged here: the gateway does that.
@@ -73,7 +76,7 @@ impl Capability {
     /// # }
     /// ```
     pub const fn from_bytes(bytes: [u8; length::CAPABILITY]) -> Capability {
-        Capability(bytes)
+        Capability(Secret(bytes))
     }
 
     /// Its 50 bytes, to hand it on: ID (2), four words (8 each), secret (16). They are a secret.
@@ -88,7 +91,7 @@ impl Capability {
     /// # }
     /// ```
     pub const fn as_bytes(&self) -> &[u8; length::CAPABILITY] {
-        &self.0
+        &self.0.0
     }
 
     /// Its ID: the number of the interface's entry, counted from 1.
@@ -100,7 +103,7 @@ impl Capability {
     /// # }
     /// ```
     pub fn id(&self) -> u16 {
-        let [low, high, ..] = self.0;
+        let [low, high, ..] = *self.as_bytes();
         u16::from_le_bytes([low, high])
     }
 
@@ -114,7 +117,7 @@ impl Capability {
     /// # }
     /// ```
     pub fn words(&self) -> [u64; 4] {
-        core::array::from_fn(|i| u64::from_le_bytes(core::array::from_fn(|k| self.0[2 + 8 * i + k])))
+        core::array::from_fn(|i| u64::from_le_bytes(core::array::from_fn(|k| self.as_bytes()[2 + 8 * i + k])))
     }
 }
 

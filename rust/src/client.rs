@@ -5,6 +5,7 @@ use core::fmt;
 
 use crate::answer::{Bytes, Opened, Sealed};
 use crate::refusal::{Refusal, Refused, called};
+use crate::secret::Secret;
 use crate::{Capability, length, raw};
 
 /// What a request has before its name: version, name length, challenge 1.
@@ -24,6 +25,9 @@ type Sixteen = [u8; length::SECRET];
 ///
 /// It gives each sequence number once, from 1 to 65,535, and makes the initial vector of each command from its number, so none is used twice under a
 /// key. For the same reason there is no `Clone`, and the key isn't handed out.
+///
+/// Challenges and key are wiped as soon as the client goes on without them: by the next step of the handshake, by [`close`](Client::close), and by
+/// its drop. Bytes that a move left behind aren't.
 ///
 /// It has no source of random bytes: the caller lends challenges 1 and 3. Each must be new, and such that nobody can foretell it.
 ///
@@ -45,25 +49,21 @@ type Sixteen = [u8; length::SECRET];
 /// # Ok(())
 /// # }
 /// ```
-#[derive(Default)]
 pub struct Client {
     phase: Phase,
+    // The secrets stand beside the phase, not in it: a new variant over an old one may keep some of its bytes.
+    /// Challenge 1 once asked, challenge 2 once proved, the key while open; zeros while idle.
+    kept: Secret<{ length::SECRET }>,
+    /// Challenge 3 once proved, or else zeros.
+    challenge3: Secret<{ length::SECRET }>,
 }
 
-#[derive(Default)]
 enum Phase {
-    #[default]
     Idle,
-    Asked {
-        challenge1: Sixteen,
-    },
-    Proved {
-        challenge2: Sixteen,
-        challenge3: Sixteen,
-    },
+    Asked,
+    Proved,
     /// `last` is the number sealed last, 0 before the first; a reply to it may be awaited.
     Open {
-        key: Sixteen,
         id: u16,
         last: u16,
         awaited: bool,
@@ -90,7 +90,7 @@ impl Client {
     /// assert_eq!(deebqoshaan::Client::new().id(), None);
     /// ```
     pub const fn new() -> Client {
-        Client { phase: Phase::Idle }
+        Client { phase: Phase::Idle, kept: Secret::zeros(), challenge3: Secret::zeros() }
     }
 
     /// Asks for a connection in the name of a host: the request's bytes, for the gateway.
@@ -121,7 +121,8 @@ impl Client {
         room[..4].copy_from_slice(&[1, 0, low, high]);
         room[4..REQUEST_HEAD].copy_from_slice(challenge1);
         room[REQUEST_HEAD..].copy_from_slice(name.as_bytes());
-        self.phase = Phase::Asked { challenge1: *challenge1 };
+        self.kept.0 = *challenge1;
+        self.phase = Phase::Asked;
         Ok(room)
     }
 
@@ -146,15 +147,16 @@ impl Client {
     /// # }
     /// ```
     pub fn proof(&mut self, answer: &[u8], challenge3: &[u8; length::SECRET]) -> Result<[u8; length::PROOF], ClientError> {
-        let Phase::Asked { challenge1 } = &self.phase else { return Err(ClientError::NotReady) };
+        let Phase::Asked = self.phase else { return Err(ClientError::NotReady) };
         let Some((first, second)) = parted(answer) else { return Err(ClientError::AnswerLength) };
-        if !same(first, challenge1) {
+        if !same(first, &self.kept.0) {
             return Err(ClientError::ChallengeDiffers);
         }
         let mut proof = [0; length::PROOF];
         proof[..length::SECRET].copy_from_slice(second);
         proof[length::SECRET..].copy_from_slice(challenge3);
-        self.phase = Phase::Proved { challenge2: *second, challenge3: *challenge3 };
+        (self.kept.0, self.challenge3.0) = (*second, *challenge3);
+        self.phase = Phase::Proved;
         Ok(proof)
     }
 
@@ -175,9 +177,9 @@ impl Client {
     /// # }
     /// ```
     pub fn open(&mut self, answer: &[u8]) -> Result<u16, ClientError> {
-        let Phase::Proved { challenge2, challenge3 } = &self.phase else { return Err(ClientError::NotReady) };
+        let Phase::Proved = self.phase else { return Err(ClientError::NotReady) };
         let Some((&[low, high, zero1, zero2], third)) = parted(answer) else { return Err(ClientError::AnswerLength) };
-        if !same(third, challenge3) {
+        if !same(third, &self.challenge3.0) {
             return Err(ClientError::ChallengeDiffers);
         }
         if (zero1, zero2) != (0, 0) {
@@ -187,10 +189,11 @@ impl Client {
         if id == 0 {
             return Err(ClientError::NoId);
         }
-        let mut key = [0; length::SECRET];
+        let challenge2 = self.kept.clone();
         // SAFETY: see `raw`; each pointer comes from a reference, and what is written is borrowed by this call alone.
-        unsafe { raw::dq_connection_key(challenge2, challenge3, &mut key) };
-        self.phase = Phase::Open { key, id, last: 0, awaited: false };
+        unsafe { raw::dq_connection_key(&challenge2.0, &self.challenge3.0, &mut self.kept.0) };
+        self.challenge3.wipe();
+        self.phase = Phase::Open { id, last: 0, awaited: false };
         Ok(id)
     }
 
@@ -219,10 +222,10 @@ impl Client {
     /// # }
     /// ```
     pub fn command<'r>(&mut self, capability: &Capability, command: Command<'_>, room: &'r mut [u8]) -> Result<Sealed<'r>, ClientError> {
-        let Phase::Open { key, id, last, awaited } = &mut self.phase else { return Err(ClientError::NotReady) };
+        let Phase::Open { id, last, awaited } = &mut self.phase else { return Err(ClientError::NotReady) };
         let Some(sequence) = last.checked_add(1) else { return Err(ClientError::NumbersUsedUp) };
         let vector = vector_of(sequence);
-        let (capability, payload) = (capability.as_bytes(), command.payload);
+        let (key, capability, payload) = (&self.kept.0, capability.as_bytes(), command.payload);
         // SAFETY: as above.
         let blocks = called(|blocks| unsafe {
             raw::dq_seal_command(
@@ -261,11 +264,11 @@ impl Client {
     /// # }
     /// ```
     pub fn reply<'r>(&mut self, reply: &[u8], room: &'r mut [u8]) -> Result<Opened<'r>, ClientError> {
-        let Phase::Open { key, last, awaited, .. } = &mut self.phase else { return Err(ClientError::NotReady) };
+        let Phase::Open { last, awaited, .. } = &mut self.phase else { return Err(ClientError::NotReady) };
         if !*awaited {
             return Err(ClientError::NotReady);
         }
-        let mut length = 0;
+        let (key, mut length) = (&self.kept.0, 0);
         // SAFETY: as above.
         let blocks = called(|blocks| unsafe {
             raw::dq_open_reply(
@@ -277,7 +280,7 @@ impl Client {
         Ok(Opened { payload: &room[..length], blocks })
     }
 
-    /// Makes the client idle, from wherever it is: the key is forgotten. The gateway isn't told.
+    /// Makes the client idle, from wherever it is, its challenges and its key wiped. The gateway isn't told.
     ///
     /// ```
     /// # include!(concat!(env!("CARGO_MANIFEST_DIR"), "/tests/plant/mod.rs"));
@@ -291,6 +294,8 @@ impl Client {
     /// # }
     /// ```
     pub fn close(&mut self) {
+        self.kept.wipe();
+        self.challenge3.wipe();
         self.phase = Phase::Idle;
     }
 
@@ -345,13 +350,19 @@ impl fmt::Debug for Command<'_> {
     }
 }
 
+impl Default for Client {
+    fn default() -> Client {
+        Client::new()
+    }
+}
+
 /// Where the client stands; no key and no challenge.
 impl fmt::Debug for Client {
     fn fmt(&self, f: &mut fmt::Formatter<'_>) -> fmt::Result {
         match self.phase {
             Phase::Idle => f.write_str("Client { idle }"),
-            Phase::Asked { .. } => f.write_str("Client { request sent }"),
-            Phase::Proved { .. } => f.write_str("Client { proof sent }"),
+            Phase::Asked => f.write_str("Client { request sent }"),
+            Phase::Proved => f.write_str("Client { proof sent }"),
             Phase::Open { id, last, awaited, .. } => {
                 write!(f, "Client {{ open, id: {id}, last: {last}, awaited: {awaited} }}")
             }

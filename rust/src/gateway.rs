@@ -13,11 +13,14 @@ const REPLY_HEAD: usize = length::REPLY_MOST - length::PAYLOAD_MOST;
 
 /// A line gateway: the state of document 01, and the calls on it.
 ///
-/// A call takes any bytes, and either is accepted or changes nothing. The state lies on the heap, never on the stack, and is reached by these calls
-/// alone: so it is sound, and [`Unsound`](crate::Refusal::Unsound) doesn't come from a `Gateway`. There is no `Clone`, because a copy would accept a
-/// command a second time.
+/// A call takes any bytes, and either is accepted or changes nothing. The state is kept on the heap, and is reached by these calls alone: so it is
+/// sound, and [`Unsound`](crate::Refusal::Unsound) doesn't come from a `Gateway`. There is no `Clone`, because a copy would accept a command a second
+/// time.
 ///
-/// The numbers of hosts, interfaces and entries count from 1, in the book's order. A dropped gateway is wiped.
+/// The calls work on the stack, on x86-64: a load takes some 26 KB of it, for it makes the new state there; a command takes less than 8 KB.
+///
+/// The numbers of hosts, interfaces and entries count from 1, in the book's order. A dropped gateway's state is wiped. What calls copied to the stack
+/// isn't.
 ///
 /// ```
 /// # fn main() -> Result<(), Box<dyn std::error::Error>> {

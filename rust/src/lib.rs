@@ -6,7 +6,8 @@
 //! gateway's calls: it lends the bytes and takes the answer apart. The client's handshake, its numbers and its vectors are this crate's own, and
 //! tested.
 //!
-//! It has no dependencies, needs no `std` (but a heap, for the gateway's state) and starts no threads.
+//! It has no dependencies, needs no `std` (but a heap, for the gateway's state) and starts no threads. The archive is for x86-64 or 64-bit Arm under
+//! Linux.
 //!
 //! # A command, from the book to the reply
 //!
@@ -63,6 +64,7 @@ pub mod length;
 #[allow(missing_docs)]
 pub mod raw;
 mod refusal;
+mod secret;
 
 pub use answer::{Done, Made, Opened, Order, Requested, Sealed, Written};
 pub use capability::Capability;
@@ -72,3 +74,4 @@ pub use refusal::{BookRefusal, Refusal, Refused};
 
 // The archive was compiled for these. A machine that lays them out otherwise stops here.
 const _: () = assert!(size_of::<usize>() == 8 && size_of::<raw::State>() == 12_952 && size_of::<raw::Order>() == 72);
+const _: () = assert!(align_of::<raw::State>() == 8);

@@ -3,6 +3,8 @@
 //!
 //! A byte string is a pointer, never null, and its length. What a call writes overlaps nothing else that is lent to it.
 
+use core::fmt;
+
 /// What the book says of hosts and interfaces, but their names. Entry `j` of interface `i` stands at `16 * i + j`, its master secret at `16 * i`.
 #[repr(C)]
 #[derive(Clone, PartialEq, Eq)]
@@ -42,7 +44,7 @@ pub struct State {
 
 /// The inner fields of a command, all 0 on a refusal.
 #[repr(C)]
-#[derive(Clone, Debug, Default, PartialEq, Eq)]
+#[derive(Clone, Default, PartialEq, Eq)]
 pub struct Order {
     pub client: u16,
     pub sequence: u16,
@@ -54,6 +56,23 @@ pub struct Order {
     pub zeros: u32,
     pub words: [u64; 4],
     pub secret: [u8; 16],
+}
+
+/// The secret is left out: with ID and words it is the capability.
+impl fmt::Debug for Order {
+    fn fmt(&self, f: &mut fmt::Formatter<'_>) -> fmt::Result {
+        f.debug_struct("Order")
+            .field("client", &self.client)
+            .field("sequence", &self.sequence)
+            .field("group", &self.group)
+            .field("interface", &self.interface)
+            .field("capability", &self.capability)
+            .field("length", &self.length)
+            .field("command", &self.command)
+            .field("zeros", &self.zeros)
+            .field("words", &self.words)
+            .finish_non_exhaustive()
+    }
 }
 
 unsafe extern "C" {

@@ -5,7 +5,7 @@ mod plant;
 use std::collections::HashSet;
 
 use deebqoshaan::ClientError::{self, *};
-use deebqoshaan::{Capability, Client, Command, Gateway, Refusal, length};
+use deebqoshaan::{Capability, Client, Command, Gateway, Refusal, length, raw};
 use plant::connected;
 
 const FIRST: &[u8; 16] = b"1st challenge 01";
@@ -162,6 +162,7 @@ fn shown(challenges: [&[u8; 16]; 3], master: &[u8; 16]) -> String {
     let sealed = panel.command(&made.capability, READ, &mut packet).unwrap();
     let order = gateway.command(sealed.bytes, &mut []).unwrap();
     said += &format!(" {made:?} {READ:?} {sealed:?} {order:?} {gateway:?} {panel:?}");
+    said += &format!(" {:?}", raw::Order { secret: *master, ..raw::Order::default() });
     let reply = gateway.reply(4, 1, master, &mut room).unwrap();
     format!("{said} {reply:?} {:?}", panel.reply(reply.bytes, &mut packet).unwrap())
 }

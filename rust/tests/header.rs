@@ -76,10 +76,18 @@ fn lengths_are_the_headers() {
     assert_ne!(defined(&damaged("#define DQ_STATE_ALIGNMENT 8", "#define DQ_STATE_ALIGNMENT 16")), lengths());
 }
 
-/// The header's own figures of sizes and places, which a C compiler has checked: the C expression and its value.
+/// The header's own figures of sizes and places, which a C compiler has checked: the C expression and its value, a number or the name of one. Those
+/// that aren't measured below are left out.
 fn figures(header: &str) -> Vec<(&str, usize)> {
     let lines = header.lines().filter_map(|line| line.strip_prefix("DQ_HOLDS(")?.strip_suffix(");")?.split_once(", "));
-    lines.map(|(_, what)| what.split_once(" == ").map(|(left, right)| (left, right.parse().unwrap())).unwrap()).collect()
+    let figures = lines.filter_map(|(_, what)| what.split_once(" == ").and_then(|(left, right)| Some((left, value(header, right)?))));
+    figures.filter(|(what, _)| measured().iter().any(|(known, _)| known == what)).collect()
+}
+
+/// The value of a number, or of a name that the header defines.
+fn value(header: &str, text: &str) -> Option<usize> {
+    let Some(name) = text.strip_prefix("DQ_") else { return text.parse().ok() };
+    defined(header).into_iter().find(|(known, _)| *known == name).map(|(_, number)| number)
 }
 
 fn measured() -> Vec<(&'static str, usize)> {
@@ -91,6 +99,7 @@ fn measured() -> Vec<(&'static str, usize)> {
         ("sizeof(dq_records)", size_of::<Records>()),
         ("offsetof(dq_records, keys)", offset_of!(Records, keys)),
         ("sizeof(dq_state)", size_of::<State>()),
+        ("offsetof(dq_aligned, state)", align_of::<State>()),
         ("offsetof(dq_state, records)", offset_of!(State, records)),
         ("offsetof(dq_state, names)", offset_of!(State, names)),
         ("offsetof(dq_state, labels)", offset_of!(State, labels)),
@@ -105,6 +114,9 @@ fn measured() -> Vec<(&'static str, usize)> {
 fn figures_are_the_headers() {
     assert_eq!(figures(&header()), measured());
     assert_ne!(figures(&damaged("offsetof(dq_order, words) == 24", "offsetof(dq_order, words) == 20")), measured());
+    let last = "DQ_HOLDS(order_secret, offsetof(dq_order, secret) == 56);\n";
+    assert_ne!(figures(&damaged(last, "")), measured());
+    assert_eq!(figures(&damaged(last, &format!("{last}DQ_HOLDS(another, sizeof(int) >= 2);\n"))), measured());
 }
 
 // ---- Every field

@@ -5,12 +5,11 @@ use mathlib.Core.List.{List, [], _∷_}
 use Prim.Native.Nat.{ℕ, zero, suc, _+_, _-_, _<_, _≤_}
 use native.Mathlib.Numerals.{add-one}
 use native.Mathlib.Omega.{arith}
-use lib.Bits.{bitOr, or-add-and, and-le-l, and-le-r}
+use lib.Bits.{bitOr}
 use lib.Dec.{leb, ltb, eqb}
 use lib.ListN.{length, getD, drop, drop-of-length-le}
 use lib.Seq.{drop-cons}
 use borrow.Author.Tests.{lt-ltb, lt-leb, le-leb, leb-true, leb-false, ne-eqb, eqb-true, eqb-false, not-true}
-use Rattle.octets.specs.Checks.{pick}
 use Rattle.octets.specs.Range.{between}
 use Rattle.octets.proofs.CheckLaws.{and-left, and-right}
 use Rattle.octets.proofs.SameLaws.{or-zero, and-assoc, and-true}
@@ -75,20 +74,11 @@ plus x l u d k =
       ne-eqb x 47 (λ e. omega (arith, o (omega arith))),
     ) (sym (or-none (eqb x 43)))
 
--- what is odd in a byte is nothing, just where it may stand inside a name
-odd-zero : (x : ℕ) → eqb (pick (inner x) 0 (bitOr x 1)) 0 ≡ inner x
-odd-zero x = either (inner x) refl where
-  either : (t : Bool) → inner x ≡ t → eqb (pick t 0 (bitOr x 1)) 0 ≡ t
-  either true e = refl
-  either false e = ne-eqb (bitOr x 1) 0 (λ z. omega (arith, or-add-and x 1, and-le-l x 1, and-le-r x 1))
-
--- one more byte, and none left
-pub inner-step : (c : ℕ) (s : List ℕ) (k : ℕ) → k < length s
-    → eqb (bitOr c (pick (inner (getD s k 0)) 0 (bitOr (getD s k 0) 1))) 0 && allInner (drop (k + 1) s) ≡ eqb c 0 && allInner (drop k s)
+-- what is odd in a byte is collected in c: one more byte, and none left
+pub inner-step : (c z : ℕ) (s : List ℕ) (k : ℕ) → k < length s → eqb z 0 ≡ inner (getD s k 0)
+    → eqb (bitOr c z) 0 && allInner (drop (k + 1) s) ≡ eqb c 0 && allInner (drop k s)
 unfolding allInner
-inner-step c s k h =
-    let x : ℕ = getD s k 0 in
-    rw (add-one, or-zero c (pick (inner x) 0 (bitOr x 1)) (eqb c 0) refl, odd-zero x, and-assoc, drop-cons s k 0)
+inner-step c z s k h e = rw (add-one, or-zero c z (eqb c 0) refl, e, and-assoc, drop-cons s k 0)
 
 pub inner-end : (c : ℕ) (s : List ℕ) (k : ℕ) → length s ≤ k → eqb c 0 && allInner (drop k s) ≡ eqb c 0
 unfolding allInner

@@ -10,8 +10,6 @@ ghost use mathlib.Core.Bool.{_&&_};
 ghost use lib.Dec.{eqb};
 ghost use Rattle.octets.specs.Same.{same};
 ghost use Rattle.layout.specs.Layout as L;
-ghost use lib.Bits.{bitOr};
-ghost use Rattle.octets.specs.Checks.{pick};
 ghost use Rattle.grammar.specs.Names.{letter, inner, allInner, plain, fitting};
 ghost use Rattle.grammar.specs.Faults.{first, each};
 ghost use Rattle.grammar.specs.Checks.{letterChecks, usedBelow};
@@ -39,7 +37,7 @@ fn is_letter(c: u8) -> bool
 
 // 0 for a letter or a space, and not 0 for any other byte.
 fn oddness(c: u8) -> u8
-    ensures { λ r. ⌜ r ≡ pick (inner c) 0 (bitOr c 1) ⌝ }
+    ensures { λ r. ⌜ eqb r 0 ≡ inner c ⌝ }
 {
     if is_letter(c) {
         return 0;
@@ -50,8 +48,8 @@ fn oddness(c: u8) -> u8
     c | 1
 }
 
-// Whether all bytes of a name may stand inside one. What is odd in each is collected and judged once: no byte decides a branch, so that a compiler takes
-// many at a time.
+// Whether all bytes of a name may stand inside one. What is odd in each is collected and judged once: no byte ends the loop, so that a compiler takes many
+// at a time.
 fn all_inner(name: &[u8]) -> bool
     ensures { λ r. ⌜ r ≡ allInner (now (name .entry)) ⌝ }
 {

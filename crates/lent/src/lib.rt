@@ -1,9 +1,10 @@
 // What firmware links: the server's calls over a state that the main loop owns and lends to every call (document 01, "Forms to follow"), and the
 // client's calls.
 //
-// Each server call is `gateway`'s call by value on the parts of the state that it reads, and stores back the part that changed. Its contract is
-// one step of `promises`: the state after the call, what it answers, and every byte of the lent room. Each call hands its number back and the rest of
-// its answer out through what the caller lends, which is the same in C on x86-64 and on Arm.
+// Each server call but the load is `gateway`'s call by value on the parts of the state that it reads, and stores back the part that changed. Its
+// contract is one step of `promises`: the state after the call, what it answers, and every byte of the lent room. The load is `book`'s, and its state is
+// stored whole. Each call hands its number back and the rest of its answer out through what the caller lends, which is the same in C on x86-64 and on
+// 64-bit Arm.
 mod machine;
 
 ghost use mathlib.Core.Path.{_≡_};

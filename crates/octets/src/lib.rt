@@ -1,6 +1,6 @@
 // Bytes: numbers read and placed, a part placed in a room, comparison without an early exit; numbers in a range, and words that fit.
 //
-// Document 01: "All numbers of ours are little-endian." Every function takes all inputs: what is read past the end of a
+// Document 01: "All numbers of ours are little-endian." Every public function takes all inputs: what is read past the end of a
 // slice counts as no byte, and what doesn't fit a room isn't placed.
 ghost use mathlib.Core.Path.{_≡_};
 ghost use Prim.Native.Nat.{_+_, _≤_, _^_};

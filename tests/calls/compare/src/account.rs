@@ -29,7 +29,8 @@ fn told(answer: &Answer) -> String {
     let numbers = [("offset", answer.offset), ("host", usize::from(answer.host)), ("length", answer.length)];
     let mut words = vec![format!("number {}, blocks {}", answer.number, answer.blocks)];
     words.extend(numbers.iter().filter(|(_, number)| *number != 0).map(|(name, number)| format!("{name} {number}")));
-    words.extend((answer.order != Answer::default().order).then(|| format!("{:?}", answer.order)));
+    let order = || format!("{:?} with the secret {}", answer.order, hex(&answer.order.secret));
+    words.extend((answer.order != Answer::default().order).then(order));
     words.join(", ")
 }
 

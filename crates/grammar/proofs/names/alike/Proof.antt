@@ -1,5 +1,5 @@
 -- `names::alike` meets its contract: names that are the same have the same length and the same numbers in them.
-use mathlib.Core.Path.{_≡_, sym, ap, _∙_}
+use mathlib.Core.Path.{sym, ap, _∙_}
 use Prim.Native.Nat.{_-_}
 use borrow.Author.Needs.{needs}
 use lib.ListN.{length}

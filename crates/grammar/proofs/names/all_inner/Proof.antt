@@ -1,10 +1,9 @@
 -- `names::all_inner` meets its contract. The invariant: nothing odd is collected and the rest may stand inside, just where all may.
 use borrow.Author.Needs.{needs}
-use mathlib.Core.Path.{_≡_, refl, sym, ap, _∙_}
+use mathlib.Core.Path.{_≡_, refl, sym, _∙_}
 use mathlib.Core.Bool.{_&&_}
 use Prim.Native.Nat.{_≤_, _-_}
 use native.Mathlib.Omega.{arith}
-use lib.Bits.{bitOr}
 use lib.Dec.{eqb}
 use lib.ListN.{length, drop}
 use Rattle.grammar.specs.Names.{allInner}
@@ -25,7 +24,7 @@ loop-again : tie.Need-loop-again Inv-loop μ-loop
 loop-again c =
     let l = c .before .before .before in
     let s = l .before .before .args .name .now in
-    (omega arith, rw (c .oddness .ensures) (inner-step (l .loop .odd) s (l .loop .k) (omega arith)) ∙ l .loop .inv .1)
+    (omega arith, inner-step (l .loop .odd) (c .oddness .result) s (l .loop .k) (omega arith) (c .oddness .ensures) ∙ l .loop .inv .1)
 
 returns : tie.Need-returns Inv-loop μ-loop
 returns c =

@@ -1,5 +1,5 @@
 -- `names::is_letter` meets its contract: each return after the tests that led there.
-use mathlib.Core.Path.{_≡_, sym, _∙_}
+use mathlib.Core.Path.{sym, _∙_}
 use borrow.Author.Needs.{needs}
 use Rattle.grammar.specs.Names.{letter}
 use Rattle.grammar.proofs.LetterLaws.{lower, upper, digit, plus}

@@ -1,5 +1,4 @@
 -- `names::is_plain` meets its contract: each return after the tests that led there.
-use mathlib.Core.Path.{_≡_, refl, sym, _∙_}
 use borrow.Author.Needs.{needs}
 use borrow.Author.Tests.{eq-eqb, ne-eqb}
 use Rattle.grammar.specs.Names.{plain}

@@ -1,5 +1,4 @@
 -- `names::twins` meets its contract.
-use mathlib.Core.Path.{_≡_, sym, _∙_}
 use borrow.Author.Needs.{needs}
 use borrow.Author.Tests.{eq-eqb, ne-eqb}
 use Rattle.grammar.proofs.names.twins.Statement.{statement}
