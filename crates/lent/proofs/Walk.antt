@@ -76,27 +76,33 @@ module _ {M : Type 1} {𝓤 : URA M} {H : Heap 𝓤} {A : Atoms 𝓤} {K : Type 
     fills t c {y} has {d} {l} n e spot v = assigns t v
         (subst (λ (sp : Spot 𝓤 H). Finds K W Γ E (place d []) sp) spot (from t (stop t))) (init t n e (fits 𝓤 H A W c has))
 
+module _ {M : Type 1} {𝓤 : URA M} {H : Heap 𝓤} {A : Atoms 𝓤} {K : Type 0} {W : Given 𝓤 H A} {Γ : List (Item 𝓤)} where
+  -- a part of what lies at place n, and a field of a struct there
+  reads-part : K → (n : ℕ) {i : Item 𝓤} {s : Share} {τ : Ty} {l o : ℕ} {v : Val} {back : Val → Item 𝓤}
+      → nth 𝓤 H A n Γ ≡ i → Part K W i s τ l o v back → Reads K W Γ τ l o v
+  reads-part t n {s = s} {τ} {l} {o} {v} {back} e p = look-in t n (subst (λ (j : Item 𝓤). Part K W j s τ l o v back) (sym e) p)
+
+  pub reads-field : K → (n : ℕ) {s : Share} {ν : Sym} {τs : Tys} {l : ℕ} {vs : Vals} (k : ℕ) {τ : Ty} {d : ℕ} → fieldAt zero τs k ≡ just (τ, d)
+      → nth 𝓤 H A n Γ ≡ ‵ (fat s (tyStruct ν τs) l zero (vstruct vs)) → Reads K W Γ τ l (zero + d) (getV vs k)
+  reads-field t n k f e = reads-part t n e (sub t k f (whole t))
+
 -- A part of a struct that the local i holds, which lies at place n: its field k, and field m of its field k.
 module _ {M : Type 1} {𝓤 : URA M} {H : Heap 𝓤} {A : Atoms 𝓤} {K : Type 0} {W : Given 𝓤 H A} {Γ : List (Item 𝓤)} {E : Env 𝓤 H} where
   pub part : K → (n : ℕ) {i k l d : ℕ} {s : Share} {ν : Sym} {τs : Tys} {vs : Vals} {τ : Ty}
       → nth 𝓤 H A n Γ ≡ ‵ (fat s (tyStruct ν τs) l zero (vstruct vs))
       → spotOf 𝓤 H E i ≡ (tyStruct ν τs, l, zero) → fieldAt zero τs k ≡ just (τ, d) → Rv K W Γ E (rvOpd (copy (place i (field k ∷ [])))) (getV vs k)
-  part t n {i} {k} {l} {d} {s} {ν} {τs} {vs} {τ} e spot at = of-opd t (load t
+  part t n {k = k} {l} {d} {τ = τ} e spot at = of-opd t (load t
       (from t (subst (λ (sp : Spot 𝓤 H). Walks K W Γ E sp (field k ∷ []) (τ, l, zero + d)) (sym spot) (fld t at (stop t))))
-      (look-in t n (subst (λ (j : Item 𝓤). Part K W j s τ l (zero + d) (getV vs k)
-      (λ u. ‵ (fat s (tyStruct ν τs) l zero (vstruct (setV vs k u))))) (sym e)
-      (sub t k at (whole t)))))
+      (reads-field t n k at e))
 
   pub part² : K → (n : ℕ) {i k m l d c : ℕ} {s : Share} {ν μ : Sym} {τs σs : Tys} {vs us : Vals} {τ : Ty}
       → nth 𝓤 H A n Γ ≡ ‵ (fat s (tyStruct ν τs) l zero (vstruct vs)) → spotOf 𝓤 H E i ≡ (tyStruct ν τs, l, zero)
       → fieldAt zero τs k ≡ just (tyStruct μ σs, d) → getV vs k ≡ vstruct us → fieldAt zero σs m ≡ just (τ, c)
       → Rv K W Γ E (rvOpd (copy (place i (field k ∷ field m ∷ [])))) (getV us m)
-  part² t n {i} {k} {m} {l} {d} {c} {s} {ν} {μ} {τs} {σs} {vs} {us} {τ} e spot at same at′ = of-opd t (load t
+  part² t n {k = k} {m} {l} {d} {c} {s} {ν} {μ} {τs} {σs} {vs} {τ = τ} e spot at same at′ = of-opd t (load t
       (from t (subst (λ (sp : Spot 𝓤 H). Walks K W Γ E sp (field k ∷ field m ∷ []) (τ, l, zero + d + c)) (sym spot) (fld t at (fld t at′ (stop t)))))
-      (look-in t n (subst (λ (j : Item 𝓤). Part K W j s τ l (zero + d + c) (getV us m)
-      (λ u. ‵ (fat s (tyStruct ν τs) l zero (vstruct (setV vs k (vstruct (setV us m u))))))) (sym e)
-      (sub t m at′ (subst (λ (u : Val). Part K W (‵ (fat s (tyStruct ν τs) l zero (vstruct vs))) s (tyStruct μ σs) l (zero + d) u
-      (λ w. ‵ (fat s (tyStruct ν τs) l zero (vstruct (setV vs k w))))) same (sub t k at (whole t)))))))
+      (reads-part t n e (sub t m at′ (subst (λ (u : Val). Part K W (‵ (fat s (tyStruct ν τs) l zero (vstruct vs))) s (tyStruct μ σs) l (zero + d) u
+      (λ w. ‵ (fat s (tyStruct ν τs) l zero (vstruct (setV vs k w))))) same (sub t k at (whole t))))))
 
 -- an operand of a call that is a whole local i, which lies at place n, and those after it
 pub copies : {M : Type 1} {𝓤 : URA M} {H : Heap 𝓤} {A : Atoms 𝓤} {K : Type 0} {W : Given 𝓤 H A} {Γ : List (Item 𝓤)} {E : Env 𝓤 H} → K

@@ -6,12 +6,11 @@ use mathlib.Core.List.{[], _∷_}
 use mir.Syntax.{w8, w16, w64}
 use mir.Val.{vint}
 use base.Logic.{id⊢}
-use types.Kit.{_$_, !, move, keep, drop, fsplit3, done}
+use types.Kit.{_$_, !, move, keep, drop, done}
 use types.Run.{look, no-more, enter}
 use denote.Ref.{RefT, now}
 use denote.Builtin.{usize}
 use denote.Steps.{nothing}
-use denote.Struct.Laws as LL
 use denote.Triple.Table.{cited}
 use Rattle.state.specs.declared.State.{State}
 use Rattle.state.proofs.State as S
@@ -24,14 +23,14 @@ use Rattle.gateway.proofs.close.Symbol as callee-def
 use Rattle.gateway.proofs.close.Symbol.{name as #callee}
 use Rattle.gateway.proofs.close.Met as callee-thm
 use Rattle.promises.specs.Step.{close, answer, next, withRecords}
-use Rattle.lent.proofs.Cells.{Cell, Has, number, struct}
-use Rattle.lent.proofs.Parts.{state, rights, records, rights-in, records-in, answer as answer-cell, number-in, blocks-in}
+use Rattle.lent.proofs.Cells.{Cell, Has, number, struct, parts}
+use Rattle.lent.proofs.Parts.{state, rights, records, answer as answer-cell, number-in, blocks-in}
 use Rattle.lent.proofs.Locals.{starts, leaves}
 use Rattle.lent.proofs.Owned.{gives-tokens}
 use Rattle.lent.proofs.Walk.{copies, part, part², opened, puts, fills}
 use Rattle.lent.proofs.Opened.{takes-rights, takes-records, keeps-records}
-use Rattle.lent.proofs.Asks.{had, asks}
-use Rattle.lent.proofs.Tail.{Params, by-mut, by-value, gives-mut, ends, proves}
+use Rattle.lent.proofs.Asks.{had, has-parts, asks}
+use Rattle.lent.proofs.Tail.{Params, by-mut, by-value, takes-mut, gives-mut, ends, proves}
 use Rattle.lent.proofs.dq_close.Key.{name as #lent}
 use Rattle.lent.proofs.dq_close as lent
 use Rattle.lent.proofs.dq_close.Statement as stated
@@ -43,11 +42,11 @@ params = (by-mut 0 tt S.the-row, (by-value w16, (by-mut 1 tt usize, tt)))
 abbrev result : Cell R.the-row
 result = struct R.the-type R′.the-laws R′.the-plain
 
-after : {r : Closed} → Has result r → Has records (r .records)
-after {r} has = record { is = LL.owed R.the-type R′.the-laws r (result .val r ∷ []) (has .is) .1 .0 }
+records-in : {r : Closed} → Has result r → Has records (r .records)
+records-in has = record { is = parts has .1 .0 }
 
-answered : {r : Closed} → Has result r → Has answer-cell (r .answer)
-answered {r} has = record { is = LL.owed R.the-type R′.the-laws r (result .val r ∷ []) (has .is) .0 }
+answer-in : {r : Closed} → Has result r → Has answer-cell (r .answer)
+answer-in has = record { is = parts has .0 }
 
 -- what the callee's contract says of its result is the step
 settled : (h : State) (n : ℕ) (r : Closed) → r ≡ closing (h .rights) (h .records) n
@@ -65,23 +64,23 @@ dq-close-spec 𝓤 H 𝓜 𝓖 𝓡 = proves 𝓤 H 𝓜 𝓖 𝓡 code.env lent
     let n : ℕ = w .a .1 .0 in
     let p : RefT ℕ = w .a .1 .1 .0 in
     -- [the tokens; what the state, the host and the count own]
-    move ! (2 ∷ []) $ fsplit3 ! $ drop ! $ move ! (5 ∷ []) $ fsplit3 ! $ drop ! $ move ! (2 ∷ 3 ∷ 4 ∷ 0 ∷ 1 ∷ 5 ∷ []) $
+    takes-mut ! 2 refl $ takes-mut ! 5 refl $ move ! (2 ∷ 3 ∷ 4 ∷ 0 ∷ 1 ∷ 5 ∷ []) $
     enter ! _ _ _ _ _ $ starts ! (w .fits) (λ bs. move ! (14 ∷ 15 ∷ 16 ∷ []) $
     opened ! state tt x (λ has. takes-rights ! x has 2 refl refl (look ! 14 refl) $ takes-records ! x has 0 refl refl (look ! 14 refl) $
     -- [the open state; _6; …; _0; …; the count; what the host owns]
-    had ! (number w16) (record { is = w .are .1 .0 }) $ had ! records (records-in has) $ had ! rights (rights-in has) $
+    had ! (number w16) (record { is = w .are .1 .0 }) $ has-parts ! has $
     asks ! (w .fm) callee.ended (callee.clauses 𝓤 H (𝓖 .A) (𝓜 .mem) (𝓡 .run))
     (cited 𝓤 H _ 𝓜 𝓡 code.env #callee callee-def.routine code.calls-gateway·close (callee-thm.met 𝓤 H 𝓜 𝓖 𝓡))
     ((tt, tt, tt, (h .rights, (h .records, (n, tt))), (rights .val (h .rights) ∷ [], (records .val (h .records) ∷ [], (vint w16 n ∷ [], tt)))), tt)
     (id⊢ 𝓤 _) result (λ r ws. r ≡ closing (h .rights) (h .records) n) (λ r ws. id⊢ 𝓤 _)
     (copies ! 7 refl (copies ! 5 refl (copies ! 13 refl (no-more !)))) 8 refl refl (λ r ws e got. drop ! $
-    keeps-records ! x has (after got) (part ! 8 refl refl refl) (look ! 14 refl) $
+    keeps-records ! x has (records-in got) (part ! 8 refl refl refl) (look ! 14 refl) $
     -- [the state; _6; …; _0; …; the count; what the host owns]
-    move ! (17 ∷ 18 ∷ 19 ∷ []) $ puts ! (number w64) p (blocks-in (answered got)) (part² ! 11 refl refl refl refl refl) (look ! 13 refl) $
-    fills ! (number w8) (number-in (answered got)) 18 refl refl (part² ! 10 refl refl refl refl refl) $
+    move ! (17 ∷ 18 ∷ 19 ∷ []) $ puts ! (number w64) p (blocks-in (answer-in got)) (part² ! 11 refl refl refl refl refl) (look ! 13 refl) $
+    fills ! (number w8) (number-in (answer-in got)) 18 refl refl (part² ! 10 refl refl refl refl refl) $
     leaves ! (code.function .locals) bs (_, (_, (_, (_, (_, (_, (_, tt))))))) 6 (look ! 18 refl) refl $
     -- [the count; the state; what the host owns]
-    ends ! w (number w8) (number-in (answered got)) (withRecords h (r .records), (tt, (r .answer .blocks, tt))) (tt, (tt, (tt, tt)))
+    ends ! w (number w8) (number-in (answer-in got)) (withRecords h (r .records), (tt, (r .answer .blocks, tt))) (tt, (tt, (tt, tt)))
     (settled h n r e) (id⊢ 𝓤 _) $
     move ! (5 ∷ 2 ∷ []) $ gives-tokens ! 2 (w .κs) (w .qs) $ gives-mut ! p $ move ! (1 ∷ 2 ∷ []) $ gives-mut ! x $
     nothing ! $ nothing ! $ keep ! (2 ∷ 0 ∷ 3 ∷ 1 ∷ []) $ done !))))

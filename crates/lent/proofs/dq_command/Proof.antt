@@ -7,13 +7,12 @@ use Prim.Native.Nat.{ℕ}
 use mathlib.Core.List.{[], _∷_, List}
 use mir.Syntax.{w8, w64}
 use base.Logic.{id⊢}
-use types.Kit.{_$_, !, move, keep, drop, fsplit3, done}
+use types.Kit.{_$_, !, move, keep, done}
 use types.Run.{look, no-more, enter}
 use denote.Builtin.{u8, usize}
 use denote.Ref.{RefT, now}
 use denote.Slice.{slice-vals}
 use denote.Steps.{nothing}
-use denote.Struct.Laws as LL
 use denote.Triple.Table.{cited}
 use Rattle.state.specs.declared.State.{State}
 use Rattle.state.proofs.State as S
@@ -32,15 +31,15 @@ use Rattle.gateway.proofs.command.Symbol as callee-def
 use Rattle.gateway.proofs.command.Symbol.{name as #callee}
 use Rattle.gateway.proofs.command.Met as callee-thm
 use Rattle.promises.specs.Step.{command, answer, next, withRecords}
-use Rattle.lent.proofs.Cells.{Cell, Has, number, struct}
+use Rattle.lent.proofs.Cells.{Cell, Has, number, struct, parts}
 use Rattle.lent.proofs.Parts.{state, rights, records}
 use Rattle.lent.proofs.Locals.{starts, leaves}
 use Rattle.lent.proofs.Walk.{copies, opened, puts, fills, part, part²}
 use Rattle.lent.proofs.Opened.{takes-rights, takes-records, keeps-records}
-use Rattle.lent.proofs.Asks.{asks}
+use Rattle.lent.proofs.Asks.{has-parts, asks}
 use Rattle.lent.proofs.Owned.{gives-tokens}
-use Rattle.lent.proofs.Slices.{lends-on, has-parts, skip, last-list}
-use Rattle.lent.proofs.Tail.{Params, by-mut, by-slice, by-room, gives-mut, ends, proves}
+use Rattle.lent.proofs.Slices.{lends-on, skip, last-list}
+use Rattle.lent.proofs.Tail.{Params, by-mut, by-slice, by-room, takes-mut, gives-mut, ends, proves}
 use Rattle.lent.proofs.dq_command.Key.{name as #lent}
 use Rattle.lent.proofs.dq_command as lent
 use Rattle.lent.proofs.dq_command.Statement as stated
@@ -58,21 +57,21 @@ heard = struct N.the-type N′.the-laws N′.the-plain
 abbrev order : Cell O.the-row
 order = struct O.the-type O′.the-laws O′.the-plain
 
-after : {r : Commanded} → Has result r → Has records (r .records)
-after {r} has = record { is = LL.owed R.the-type R′.the-laws r (result .val r ∷ []) (has .is) .1 .0 }
+records-in : {r : Commanded} → Has result r → Has records (r .records)
+records-in has = record { is = parts has .1 .0 }
 
-answered : {r : Commanded} → Has result r → Has heard (r .heard)
-answered {r} has = record { is = LL.owed R.the-type R′.the-laws r (result .val r ∷ []) (has .is) .0 }
+heard-in : {r : Commanded} → Has result r → Has heard (r .heard)
+heard-in has = record { is = parts has .0 }
 
 -- the parts of what it heard
 number-in : {a : Heard} → Has heard a → Has (number w8) (a .number)
-number-in {a} has = record { is = LL.owed N.the-type N′.the-laws a (heard .val a ∷ []) (has .is) .0 }
+number-in has = record { is = parts has .0 }
 
 blocks-in : {a : Heard} → Has heard a → Has (number w64) (a .blocks)
-blocks-in {a} has = record { is = LL.owed N.the-type N′.the-laws a (heard .val a ∷ []) (has .is) .1 .0 }
+blocks-in has = record { is = parts has .1 .0 }
 
 order-in : {a : Heard} → Has heard a → Has order (a .order)
-order-in {a} has = record { is = LL.owed N.the-type N′.the-laws a (heard .val a ∷ []) (has .is) .1 .1 .0 }
+order-in has = record { is = parts has .1 .1 .0 }
 
 -- what the callee's contract says of its result, and of the room zs at exit
 abbrev Said : State → List ℕ → List ℕ → Commanded → List ℕ → Type 0
@@ -97,8 +96,7 @@ dq-command-spec 𝓤 H 𝓜 𝓖 𝓡 = proves 𝓤 H 𝓜 𝓖 𝓡 code.env le
     let d : RefT Order = w .a .1 .1 .1 .0 in
     let p : RefT ℕ = w .a .1 .1 .1 .1 .0 in
     -- [the tokens; what the state, the packet, the room, the order and the count own]
-    move ! (9 ∷ []) $ fsplit3 ! $ drop ! $ move ! (10 ∷ []) $ fsplit3 ! $ drop ! $ move ! (9 ∷ []) $ fsplit3 ! $ drop ! $
-    move ! (0 ∷ 1 ∷ 6 ∷ 2 ∷ 3 ∷ 9 ∷ 4 ∷ 5 ∷ 10 ∷ []) $
+    takes-mut ! 9 refl $ takes-mut ! 10 refl $ takes-mut ! 9 refl $ move ! (0 ∷ 1 ∷ 6 ∷ 2 ∷ 3 ∷ 9 ∷ 4 ∷ 5 ∷ 10 ∷ []) $
     enter ! _ _ _ _ _ $ starts ! (w .fits) (λ bs. move ! (22 ∷ 23 ∷ 24 ∷ []) $
     opened ! state tt x (λ has. takes-rights ! x has 6 refl refl (look ! 22 refl) $ takes-records ! x has 4 refl refl (look ! 22 refl) $
     lends-on ! 18 6 4 (w .are .1 .1 .0 .0 .1) refl refl refl refl refl refl refl refl $
@@ -118,14 +116,14 @@ dq-command-spec 𝓤 H 𝓜 𝓖 𝓡 = proves 𝓤 H 𝓜 𝓖 𝓡 code.env le
     (id⊢ 𝓤 _) result (λ r ws. Said h (now i) (now o) r (ws .1 .1 .1 .0)) (λ r ws. id⊢ 𝓤 _)
     (copies ! 11 refl (copies ! 9 refl (copies ! 21 refl (copies ! 5 refl (no-more !))))) 12 refl refl (λ r ws e got.
     move ! (2 ∷ []) $ skip ! $ skip ! $ skip ! $ last-list ! (λ l. move ! (3 ∷ 4 ∷ 5 ∷ 6 ∷ []) $
-    keeps-records ! x has (after got) (part ! 15 refl refl refl) (look ! 25 refl) $
+    keeps-records ! x has (records-in got) (part ! 15 refl refl refl) (look ! 25 refl) $
     -- [the state; the room's last list; the tokens of the slices; _10; …; _0; …; the order; the count]
-    move ! (28 ∷ 29 ∷ 30 ∷ []) $ puts ! order d (order-in (answered got)) (part² ! 18 refl refl refl refl refl) (look ! 22 refl) $
-    move ! (31 ∷ 32 ∷ 33 ∷ []) $ puts ! (number w64) p (blocks-in (answered got)) (part² ! 21 refl refl refl refl refl) (look ! 23 refl) $
-    fills ! (number w8) (number-in (answered got)) 32 refl refl (part² ! 20 refl refl refl refl refl) $
+    move ! (28 ∷ 29 ∷ 30 ∷ []) $ puts ! order d (order-in (heard-in got)) (part² ! 18 refl refl refl refl refl) (look ! 22 refl) $
+    move ! (31 ∷ 32 ∷ 33 ∷ []) $ puts ! (number w64) p (blocks-in (heard-in got)) (part² ! 21 refl refl refl refl refl) (look ! 23 refl) $
+    fills ! (number w8) (number-in (heard-in got)) 32 refl refl (part² ! 20 refl refl refl refl refl) $
     leaves ! (code.function .locals) bs (_, (_, (_, (_, (_, (_, (_, (_, (_, (_, (_, tt))))))))))) 12 (look ! 32 refl) refl $
     -- [the count; the order; the state; the room's last list; the tokens of the slices]
-    ends ! w (number w8) (number-in (answered got))
+    ends ! w (number w8) (number-in (heard-in got))
     (withRecords h (r .records), (tt, (ws .1 .1 .1 .0, (r .heard .order, (r .heard .blocks, tt))))) (tt, (tt, (l, (tt, (tt, tt)))))
     (settled h (now i) (now o) r (ws .1 .1 .1 .0) e) (id⊢ 𝓤 _) $
     move ! (8 ∷ 10 ∷ 11 ∷ 5 ∷ 2 ∷ []) $ gives-tokens ! 5 (w .κs) (w .qs) $ gives-mut ! p $ move ! (1 ∷ 2 ∷ []) $ gives-mut ! d $

@@ -9,13 +9,12 @@ use lib.ListN.{length}
 use mir.Syntax.{w8, w16, w64}
 use mir.Val.{vint}
 use base.Logic.{id⊢}
-use types.Kit.{_$_, !, move, keep, drop, fsplit3, done}
+use types.Kit.{_$_, !, move, keep, done}
 use types.Run.{look, no-more, enter}
 use denote.Builtin.{u8, usize}
 use denote.Ref.{RefT, now}
 use denote.Slice.{slice-vals}
 use denote.Steps.{nothing}
-use denote.Struct.Laws as LL
 use denote.Triple.Table.{cited}
 use Rattle.state.specs.declared.State.{State}
 use Rattle.state.proofs.State as S
@@ -28,15 +27,15 @@ use Rattle.gateway.proofs.proof.Symbol as callee-def
 use Rattle.gateway.proofs.proof.Symbol.{name as #callee}
 use Rattle.gateway.proofs.proof.Met as callee-thm
 use Rattle.promises.specs.Step.{proof, answer, next, withRecords}
-use Rattle.lent.proofs.Cells.{Cell, Has, number, struct}
+use Rattle.lent.proofs.Cells.{Cell, Has, number, struct, parts}
 use Rattle.lent.proofs.Parts.{state, rights, records, answer as answer-cell, number-in, blocks-in}
 use Rattle.lent.proofs.Locals.{starts, leaves}
 use Rattle.lent.proofs.Walk.{copies, opened, puts, fills, part, part²}
 use Rattle.lent.proofs.Opened.{takes-rights, takes-records, keeps-records}
-use Rattle.lent.proofs.Asks.{asks}
+use Rattle.lent.proofs.Asks.{has-parts, asks}
 use Rattle.lent.proofs.Owned.{gives-tokens}
-use Rattle.lent.proofs.Slices.{lends-on, has-parts, skip, last-list}
-use Rattle.lent.proofs.Tail.{Params, by-mut, by-value, by-slice, by-room, gives-mut, ends, proves}
+use Rattle.lent.proofs.Slices.{lends-on, skip, last-list}
+use Rattle.lent.proofs.Tail.{Params, by-mut, by-value, by-slice, by-room, takes-mut, gives-mut, ends, proves}
 use Rattle.lent.proofs.dq_proof.Key.{name as #lent}
 use Rattle.lent.proofs.dq_proof as lent
 use Rattle.lent.proofs.dq_proof.Statement as stated
@@ -48,11 +47,11 @@ params = (by-mut 0 tt S.the-row, (by-value w16, (by-slice 1 tt u8, (by-room 2 tt
 abbrev result : Cell R.the-row
 result = struct R.the-type R′.the-laws R′.the-plain
 
-after : {r : Proved} → Has result r → Has records (r .records)
-after {r} has = record { is = LL.owed R.the-type R′.the-laws r (result .val r ∷ []) (has .is) .1 .0 }
+records-in : {r : Proved} → Has result r → Has records (r .records)
+records-in has = record { is = parts has .1 .0 }
 
-answered : {r : Proved} → Has result r → Has answer-cell (r .answer)
-answered {r} has = record { is = LL.owed R.the-type R′.the-laws r (result .val r ∷ []) (has .is) .0 }
+answer-in : {r : Proved} → Has result r → Has answer-cell (r .answer)
+answer-in has = record { is = parts has .0 }
 
 -- what the callee's contract says of its result, and of the room zs at exit
 abbrev Said : State → ℕ → List ℕ → List ℕ → Proved → List ℕ → Type 0
@@ -76,7 +75,7 @@ dq-proof-spec 𝓤 H 𝓜 𝓖 𝓡 = proves 𝓤 H 𝓜 𝓖 𝓡 code.env lent
     let o : RefT (List ℕ) = w .a .1 .1 .1 .0 in
     let p : RefT ℕ = w .a .1 .1 .1 .1 .0 in
     -- [the tokens; what the state, the host, the proof, the room and the count own]
-    move ! (8 ∷ []) $ fsplit3 ! $ drop ! $ move ! (6 ∷ []) $ fsplit3 ! $ drop ! $ move ! (0 ∷ 1 ∷ 4 ∷ 2 ∷ 3 ∷ 7 ∷ []) $
+    takes-mut ! 8 refl $ takes-mut ! 6 refl $ move ! (0 ∷ 1 ∷ 4 ∷ 2 ∷ 3 ∷ 7 ∷ []) $
     enter ! _ _ _ _ _ $ starts ! (w .fits) (λ bs. move ! (22 ∷ 23 ∷ 24 ∷ []) $
     opened ! state tt x (λ has. takes-rights ! x has 6 refl refl (look ! 22 refl) $ takes-records ! x has 4 refl refl (look ! 22 refl) $
     lends-on ! 16 6 4 (w .are .1 .1 .1 .0 .0 .1) refl refl refl refl refl refl refl refl $
@@ -96,13 +95,13 @@ dq-proof-spec 𝓤 H 𝓜 𝓖 𝓡 = proves 𝓤 H 𝓜 𝓖 𝓡 code.env lent
     (id⊢ 𝓤 _) result (λ r ws. Said h n (now i) (now o) r (ws .1 .1 .1 .1 .0)) (λ r ws. id⊢ 𝓤 _)
     (copies ! 11 refl (copies ! 9 refl (copies ! 21 refl (copies ! 19 refl (copies ! 5 refl (no-more !)))))) 12 refl refl (λ r ws e got.
     move ! (2 ∷ []) $ skip ! $ skip ! $ skip ! $ skip ! $ last-list ! (λ l. move ! (3 ∷ 4 ∷ 5 ∷ 6 ∷ []) $
-    keeps-records ! x has (after got) (part ! 15 refl refl refl) (look ! 25 refl) $
+    keeps-records ! x has (records-in got) (part ! 15 refl refl refl) (look ! 25 refl) $
     -- [the state; the room's last list; the tokens of the slices; _10; …; _0; …; the count]
-    move ! (28 ∷ 29 ∷ 30 ∷ []) $ puts ! (number w64) p (blocks-in (answered got)) (part² ! 18 refl refl refl refl refl) (look ! 20 refl) $
-    fills ! (number w8) (number-in (answered got)) 29 refl refl (part² ! 17 refl refl refl refl refl) $
+    move ! (28 ∷ 29 ∷ 30 ∷ []) $ puts ! (number w64) p (blocks-in (answer-in got)) (part² ! 18 refl refl refl refl refl) (look ! 20 refl) $
+    fills ! (number w8) (number-in (answer-in got)) 29 refl refl (part² ! 17 refl refl refl refl refl) $
     leaves ! (code.function .locals) bs (_, (_, (_, (_, (_, (_, (_, (_, (_, (_, (_, tt))))))))))) 9 (look ! 29 refl) refl $
     -- [the count; the state; the room's last list; the tokens of the slices]
-    ends ! w (number w8) (number-in (answered got))
+    ends ! w (number w8) (number-in (answer-in got))
     (withRecords h (r .records), (tt, (tt, (ws .1 .1 .1 .1 .0, (r .answer .blocks, tt))))) (tt, (tt, (tt, (l, (tt, tt)))))
     (settled h n (now i) (now o) r (ws .1 .1 .1 .1 .0) e) (id⊢ 𝓤 _) $
     move ! (5 ∷ 7 ∷ 8 ∷ 2 ∷ []) $ gives-tokens ! 4 (w .κs) (w .qs) $ gives-mut ! p $ move ! (1 ∷ 2 ∷ []) $ gives-mut ! x $

@@ -6,12 +6,11 @@ use mathlib.Core.List.{[], _∷_}
 use mir.Syntax.{w8, w16, w64}
 use mir.Val.{vint}
 use base.Logic.{id⊢}
-use types.Kit.{_$_, !, move, keep, drop, fsplit3, done}
+use types.Kit.{_$_, !, move, keep, drop, done}
 use types.Run.{look, no-more, enter}
 use denote.Ref.{RefT, now}
 use denote.Builtin.{usize}
 use denote.Steps.{nothing}
-use denote.Struct.Laws as LL
 use denote.Triple.Table.{cited}
 use Rattle.state.specs.declared.State.{State}
 use Rattle.state.proofs.State as S
@@ -24,14 +23,14 @@ use Rattle.gateway.proofs.revoke.Symbol as callee-def
 use Rattle.gateway.proofs.revoke.Symbol.{name as #callee}
 use Rattle.gateway.proofs.revoke.Met as callee-thm
 use Rattle.promises.specs.Step.{revoke, answer, next, withRights}
-use Rattle.lent.proofs.Cells.{Cell, Has, number, struct}
-use Rattle.lent.proofs.Parts.{state, rights, rights-in, answer as answer-cell, number-in, blocks-in}
+use Rattle.lent.proofs.Cells.{Cell, Has, number, struct, parts}
+use Rattle.lent.proofs.Parts.{state, rights, rights-in as rights-in-state, answer as answer-cell, number-in, blocks-in}
 use Rattle.lent.proofs.Locals.{starts, leaves}
 use Rattle.lent.proofs.Owned.{gives-tokens}
 use Rattle.lent.proofs.Walk.{copies, part, part², opened, puts, fills}
 use Rattle.lent.proofs.Opened.{takes-rights, keeps-rights}
 use Rattle.lent.proofs.Asks.{had, asks}
-use Rattle.lent.proofs.Tail.{Params, by-mut, by-value, gives-mut, ends, proves}
+use Rattle.lent.proofs.Tail.{Params, by-mut, by-value, takes-mut, gives-mut, ends, proves}
 use Rattle.lent.proofs.dq_revoke.Key.{name as #lent}
 use Rattle.lent.proofs.dq_revoke as lent
 use Rattle.lent.proofs.dq_revoke.Statement as stated
@@ -43,11 +42,11 @@ params = (by-mut 0 tt S.the-row, (by-value w16, (by-value w16, (by-value w64, (b
 abbrev result : Cell R.the-row
 result = struct R.the-type R′.the-laws R′.the-plain
 
-after : {r : Revoked} → Has result r → Has rights (r .rights)
-after {r} has = record { is = LL.owed R.the-type R′.the-laws r (result .val r ∷ []) (has .is) .1 .0 }
+rights-in : {r : Revoked} → Has result r → Has rights (r .rights)
+rights-in has = record { is = parts has .1 .0 }
 
-answered : {r : Revoked} → Has result r → Has answer-cell (r .answer)
-answered {r} has = record { is = LL.owed R.the-type R′.the-laws r (result .val r ∷ []) (has .is) .0 }
+answer-in : {r : Revoked} → Has result r → Has answer-cell (r .answer)
+answer-in has = record { is = parts has .0 }
 
 -- what the callee's contract says of its result is the step
 settled : (h : State) (i k w : ℕ) (r : Revoked) → r ≡ revoking (h .rights) i k w
@@ -67,24 +66,24 @@ dq-revoke-spec 𝓤 H 𝓜 𝓖 𝓡 = proves 𝓤 H 𝓜 𝓖 𝓡 code.env len
     let b : ℕ = w .a .1 .1 .1 .0 in
     let p : RefT ℕ = w .a .1 .1 .1 .1 .0 in
     -- [the tokens; what the state, the three numbers and the count own]
-    move ! (2 ∷ []) $ fsplit3 ! $ drop ! $ move ! (7 ∷ []) $ fsplit3 ! $ drop ! $ move ! (2 ∷ 3 ∷ 4 ∷ 0 ∷ 1 ∷ 5 ∷ []) $
+    takes-mut ! 2 refl $ takes-mut ! 7 refl $ move ! (2 ∷ 3 ∷ 4 ∷ 0 ∷ 1 ∷ 5 ∷ []) $
     enter ! _ _ _ _ _ $ starts ! (w .fits) (λ bs. move ! (16 ∷ 17 ∷ 18 ∷ []) $
     opened ! state tt x (λ has. takes-rights ! x has 0 refl refl (look ! 16 refl) $
     -- [the open state; _7; …; _0; …; the count; what the numbers own]
     had ! (number w64) (record { is = w .are .1 .1 .1 .0 }) $ had ! (number w16) (record { is = w .are .1 .1 .0 }) $
-    had ! (number w16) (record { is = w .are .1 .0 }) $ had ! rights (rights-in has) $
+    had ! (number w16) (record { is = w .are .1 .0 }) $ had ! rights (rights-in-state has) $
     asks ! (w .fm) callee.ended (callee.clauses 𝓤 H (𝓖 .A) (𝓜 .mem) (𝓡 .run))
     (cited 𝓤 H _ 𝓜 𝓡 code.env #callee callee-def.routine code.calls-gateway·revoke (callee-thm.met 𝓤 H 𝓜 𝓖 𝓡))
     ((tt, tt, tt, (h .rights, (i, (k, (b, tt)))), (rights .val (h .rights) ∷ [], (vint w16 i ∷ [], (vint w16 k ∷ [], (vint w64 b ∷ [], tt))))), tt)
     (id⊢ 𝓤 _) result (λ r ws. r ≡ revoking (h .rights) i k b) (λ r ws. id⊢ 𝓤 _)
     (copies ! 5 refl (copies ! 15 refl (copies ! 13 refl (copies ! 11 refl (no-more !))))) 6 refl refl (λ r ws e got. drop ! $
-    keeps-rights ! x has (after got) (part ! 6 refl refl refl) (look ! 16 refl) $
+    keeps-rights ! x has (rights-in got) (part ! 6 refl refl refl) (look ! 16 refl) $
     -- [the state; _7; …; _0; …; the count; what the numbers own]
-    move ! (19 ∷ 20 ∷ 21 ∷ []) $ puts ! (number w64) p (blocks-in (answered got)) (part² ! 9 refl refl refl refl refl) (look ! 11 refl) $
-    fills ! (number w8) (number-in (answered got)) 20 refl refl (part² ! 8 refl refl refl refl refl) $
+    move ! (19 ∷ 20 ∷ 21 ∷ []) $ puts ! (number w64) p (blocks-in (answer-in got)) (part² ! 9 refl refl refl refl refl) (look ! 11 refl) $
+    fills ! (number w8) (number-in (answer-in got)) 20 refl refl (part² ! 8 refl refl refl refl refl) $
     leaves ! (code.function .locals) bs (_, (_, (_, (_, (_, (_, (_, (_, tt)))))))) 6 (look ! 20 refl) refl $
     -- [the count; the state; what the numbers own]
-    ends ! w (number w8) (number-in (answered got)) (withRights h (r .rights), (tt, (tt, (tt, (r .answer .blocks, tt)))))
+    ends ! w (number w8) (number-in (answer-in got)) (withRights h (r .rights), (tt, (tt, (tt, (r .answer .blocks, tt)))))
     (tt, (tt, (tt, (tt, (tt, tt))))) (settled h i k b r e) (id⊢ 𝓤 _) $
     move ! (5 ∷ 2 ∷ []) $ gives-tokens ! 2 (w .κs) (w .qs) $ gives-mut ! p $ move ! (1 ∷ 2 ∷ []) $ gives-mut ! x $
     nothing ! $ nothing ! $ nothing ! $ nothing ! $ keep ! (4 ∷ 0 ∷ 1 ∷ 2 ∷ 5 ∷ 3 ∷ []) $ done !))))
