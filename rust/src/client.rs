@@ -5,7 +5,7 @@ use core::fmt;
 
 use crate::answer::{Bytes, Opened, Sealed};
 use crate::refusal::{Refusal, Refused, called};
-use crate::secret::Secret;
+use crate::secret::{Secret, same};
 use crate::{Capability, length, raw};
 
 /// What a request has before its name: version, name length, challenge 1.
@@ -327,11 +327,6 @@ fn vector_of(sequence: u16) -> [u8; length::VECTOR_BYTES] {
 fn parted<const BEFORE: usize>(answer: &[u8]) -> Option<(&[u8; BEFORE], &Sixteen)> {
     let (before, challenge) = answer.split_first_chunk()?;
     Some((before, challenge.try_into().ok()?))
-}
-
-/// Compares without an early exit, so that the time doesn't tell how much of a challenge was right.
-fn same(a: &Sixteen, b: &Sixteen) -> bool {
-    a.iter().zip(b).fold(0, |differ, (x, y)| differ | (x ^ y)) == 0
 }
 
 /// What the client itself refuses by a number of document 01: nothing is enciphered for it.

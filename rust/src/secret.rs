@@ -12,8 +12,13 @@ fn wipe(bytes: &mut [u8]) {
     compiler_fence(Ordering::SeqCst);
 }
 
+/// Compares without an early exit, so that the time doesn't tell how much was right.
+pub(crate) fn same<const LENGTH: usize>(a: &[u8; LENGTH], b: &[u8; LENGTH]) -> bool {
+    a.iter().zip(b).fold(0, |differ, (x, y)| differ | (x ^ y)) == 0
+}
+
 /// A key, a challenge or a capability, which is wiped when it is dropped. A move copies the bytes and wipes nothing.
-#[derive(Clone, PartialEq, Eq)]
+#[derive(Clone, Eq)]
 pub(crate) struct Secret<const LENGTH: usize>(pub(crate) [u8; LENGTH]);
 
 impl<const LENGTH: usize> Secret<LENGTH> {
@@ -23,6 +28,12 @@ impl<const LENGTH: usize> Secret<LENGTH> {
 
     pub(crate) fn wipe(&mut self) {
         wipe(&mut self.0);
+    }
+}
+
+impl<const LENGTH: usize> PartialEq for Secret<LENGTH> {
+    fn eq(&self, other: &Self) -> bool {
+        same(&self.0, &other.0)
     }
 }
 
