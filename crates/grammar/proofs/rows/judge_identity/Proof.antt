@@ -19,14 +19,8 @@ returns-2 c =
     let o = c .before .before in
     let f = o .before .before .before in
     let k = f .before in
-    rw (
-      ← k .kind .ensures .0,
-      ← k .before .before .pre .1,
-      yes (f .kind-fits .ensures) (o .before .before .if1 .left),
-      ← o .before .id .ensures .0,
-      ← o .ordinal-of .ensures,
-      ne-eqb _ _ (c .before .if2 .taken),
-    ) (c .fault-at2 .ensures)
+    rw (← k .kind .ensures .0, ← k .before .before .pre .1, yes (f .kind-fits .ensures) (o .before .before .if1 .left),
+      ← o .before .id .ensures .0, ← o .ordinal-of .ensures, ne-eqb _ _ (c .before .if2 .taken)) (c .fault-at2 .ensures)
 
 returns-3 : tie.Need-returns-3
 unfolding first
@@ -34,14 +28,8 @@ returns-3 c =
     let o = c .before .before in
     let f = o .before .before .before in
     let k = f .before in
-    rw (
-      ← k .kind .ensures .0,
-      ← k .before .before .pre .1,
-      yes (f .kind-fits .ensures) (o .before .before .if1 .left),
-      ← o .before .id .ensures .0,
-      ← o .ordinal-of .ensures,
-      eq-eqb _ _ (c .before .if2 .left),
-    ) (c .no-fault .ensures)
+    rw (← k .kind .ensures .0, ← k .before .before .pre .1, yes (f .kind-fits .ensures) (o .before .before .if1 .left),
+      ← o .before .id .ensures .0, ← o .ordinal-of .ensures, eq-eqb _ _ (c .before .if2 .left)) (c .no-fault .ensures)
 
 pub judge-identity-spec : {M : Type 1} → statement M
 judge-identity-spec =

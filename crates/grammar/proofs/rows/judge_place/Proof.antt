@@ -17,28 +17,16 @@ unfolding first
 returns-2 c =
     let s = c .before .before in
     let x = s .before .before .before .before in
-    rw (
-      ← x .before .start .ensures .0,
-      ← x .expected .ensures,
-      eq-eqb _ _ (s .before .before .before .if1 .left),
-      ← s .before .before .size .ensures .0,
-      ← s .before .kind .ensures .0,
-      no (s .size-fits .ensures) (c .before .if2 .taken),
-    ) (c .fault-at2 .ensures)
+    rw (← x .before .start .ensures .0, ← x .expected .ensures, eq-eqb _ _ (s .before .before .before .if1 .left),
+      ← s .before .before .size .ensures .0, ← s .before .kind .ensures .0, no (s .size-fits .ensures) (c .before .if2 .taken)) (c .fault-at2 .ensures)
 
 returns-3 : tie.Need-returns-3
 unfolding first
 returns-3 c =
     let s = c .before .before in
     let x = s .before .before .before .before in
-    rw (
-      ← x .before .start .ensures .0,
-      ← x .expected .ensures,
-      eq-eqb _ _ (s .before .before .before .if1 .left),
-      ← s .before .before .size .ensures .0,
-      ← s .before .kind .ensures .0,
-      yes (s .size-fits .ensures) (c .before .if2 .left),
-    ) (c .judge-end .ensures)
+    rw (← x .before .start .ensures .0, ← x .expected .ensures, eq-eqb _ _ (s .before .before .before .if1 .left),
+      ← s .before .before .size .ensures .0, ← s .before .kind .ensures .0, yes (s .size-fits .ensures) (c .before .if2 .left)) (c .judge-end .ensures)
 
 pub judge-place-spec : {M : Type 1} → statement M
 judge-place-spec =
