@@ -1,5 +1,5 @@
 -- FIPS 197, section 5.1: CIPHER, for AES-128 (10 rounds).
-use Rattle.std.specs.Prelude.{ℕ, zero, suc, ◌+◌, ◌*◌, ◌%◌, List}
+use Rattle.std.specs.Prelude.{ℕ, zero, suc, ◌+◌, List}
 use Rattle.std.specs.Int.Bits.{bit_xor}
 use Rattle.aes.specs.Field.{◌•◌}
 use Rattle.aes.specs.Sbox.{sbox}

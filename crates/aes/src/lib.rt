@@ -4,6 +4,9 @@
 // column at once. There is no table but the S-box. `prepare` does a key's part of the work once for many blocks. Its contract
 // names `prepared`, whose bytes no caller looks into: callers use the law `under-prepared` (proofs/PreparedLaws), that under the
 // prepared key a block is enciphered as `cipher` says.
+
+#![tactic(auto)]
+
 mod keys;
 mod round;
 mod sbox;

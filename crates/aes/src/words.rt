@@ -5,7 +5,7 @@ ghost use Rattle.aes.specs.Sbox.{sbox, table};
 ghost use Rattle.aes.specs.Cipher.{add_round_key};
 ghost use Rattle.aes.specs.Words.{bytes, bytes_of, b0, b1, b2, b3, column_mixed};
 
-#[derive(Drop)]
+#[derive(Clone, Copy)]
 pub(crate) struct Words {
     pub a: u32,
     pub b: u32,

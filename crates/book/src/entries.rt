@@ -5,7 +5,7 @@ ghost use Rattle.layout.specs.Layout as L;
 ghost use Rattle.book.specs.States.{fill, laid};
 ghost use Rattle.book.specs.Columns as C;
 
-#[derive(Drop)]
+#[derive(Clone, Copy)]
 pub(crate) struct EntryRows {
     pub words: [u64; 128],
     pub owners: [u16; 128],

@@ -2,6 +2,9 @@
 //
 // The book is judged first (crate grammar), once; then each array of the new state is made by one pass over the rows. Loading copies
 // all that is needed: the book isn't lent again.
+
+#![tactic(auto)]
+
 mod entries;
 mod tables;
 
@@ -12,7 +15,7 @@ ghost use Rattle.book.specs.States.{rights_of, state_of, empty_state, loaded};
 ghost use Rattle.book.specs.Columns.{contents, InRoom};
 
 // What a load answers: the number, the count of enciphered blocks, which is 0, the place of the fault (0 if accepted), and the new state.
-#[derive(Drop)]
+#[derive(Clone, Copy)]
 pub struct Loaded {
     pub number: u8,
     pub blocks: usize,

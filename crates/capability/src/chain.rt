@@ -3,7 +3,7 @@ ghost use Rattle.std.specs.Prelude.{◌≡◌, ◌≤◌, ◌+◌, length, drop}
 ghost use Rattle.capability.specs.Chain.{id_block, word_block, first_secret, step, chain, chain_blocks, right_secret, right_blocks};
 
 // A secret, and how many blocks were enciphered on the way to it.
-#[derive(Drop)]
+#[derive(Clone, Copy)]
 pub struct Chained {
     pub secret: [u8; 16],
     pub blocks: usize,

@@ -1,4 +1,7 @@
 // Capabilities (document 01, "Capability"; 000, section 3.6): the chain of secrets, what words permit, issuing and narrowing.
+
+#![tactic(auto)]
+
 mod bytes;
 mod chain;
 
@@ -9,7 +12,7 @@ pub use bytes::{four_at, permits};
 pub use chain::{Chained, right_secret};
 
 // What a call answers that has no other fields: the number and the count of blocks.
-#[derive(Drop)]
+#[derive(Clone, Copy)]
 pub struct Answer {
     pub number: u8,
     pub blocks: usize,

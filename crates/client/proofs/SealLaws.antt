@@ -1,23 +1,20 @@
 -- Sealing a command: what holds of the bytes lent where nothing is refused, and that they make the packet and its count of blocks.
-use mathlib.Core.Path.{◌≡◌, refl, sym, ◌∙◌}
-use mathlib.Core.Bool.{false, not, ◌&&◌}
+use mathlib.Core.Path.{◌≡◌, refl, ◌∙◌}
+use mathlib.Core.Bool.{not, ◌&&◌}
 use mathlib.Core.List.{List, [], ◌∷◌, ◌++◌}
-use Prim.Native.Nat.{ℕ, zero, suc, ◌+◌, ◌≤◌}
+use Prim.Native.Nat.{ℕ, ◌+◌, ◌≤◌}
 use native.Mathlib.Omega.{arith}
-use borrow.Author.Tests.{ltb-false, eqb-true, not-false, le-leb}
+use borrow.Author.Tests.{ltb-false, eqb-true, not-false}
 use lib.Dec.{eqb, leb}
-use lib.ListN.{length, drop, replicate, length-append, length-drop, length-map}
+use lib.ListN.{length, drop, replicate, length-append, length-drop}
 use lib.Seq.{take_all}
 use Rattle.octets.specs.Little.{octets}
-use Rattle.octets.specs.Checks.{is_zero, ◌when◌}
+use Rattle.octets.specs.Checks.{◌when◌}
 use Rattle.octets.specs.Room.{number_at, placed, filled}
 use Rattle.octets.proofs.CheckLaws.{and_left, and_right, passed-of}
 use Rattle.octets.proofs.RoomLaws.{filled-there}
 use Rattle.octets.proofs.PlacedLaws.{placed-next, placed-whole}
-use Rattle.aes.specs.Cipher.{cipher}
-use Rattle.gcm.specs.Gcm.{seal}
 use Rattle.capability.specs.Bytes.{id_of}
-use Rattle.capability.specs.Enciphered.{under_key}
 use Rattle.fields.specs.Command.{command_lead, open_lead}
 use Rattle.packet.specs.Sealed.{sealed_packet, sealed_blocks}
 use Rattle.packet.proofs.SealedLaws.{packet-length, blocks-counted}

@@ -18,7 +18,7 @@ const LENGTH_FIELD: u8 = 11;
 const NOT_EXPECTED: u8 = 12;
 
 // What the opening of a reply answers: the number, how many blocks were counted, and the payload's length (0 on a refusal).
-#[derive(Drop)]
+#[derive(Clone, Copy)]
 pub struct Opened {
     pub number: u8,
     pub blocks: usize,

@@ -11,7 +11,7 @@ const NUMBER_ZERO: u8 = 12;
 const PAYLOAD_ABOVE: u8 = 30;
 
 // What a command asks for, beside its capability and its payload. None of these is judged here but the sequence number.
-#[derive(Drop)]
+#[derive(Clone, Copy)]
 pub struct Ask {
     pub client: u16,
     pub sequence: u16,

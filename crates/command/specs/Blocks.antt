@@ -1,6 +1,6 @@
 -- Document 01, "Blocks counted": the blocks that the check of a command enciphers, in order. After the outer checks those of the tag; where
 -- it is right, those of the whole text; where the text's checks but the last pass, those of the chain of secrets.
-use Rattle.std.specs.Prelude.{ℕ, List, [], ◌∷◌, ◌++◌}
+use Rattle.std.specs.Prelude.{ℕ, List, ◌∷◌, ◌++◌}
 use Rattle.gcm.specs.Gcm.{zeros, subkey, tag_of}
 use Rattle.capability.specs.Enciphered.{Enciphered, under_key, past}
 use Rattle.capability.specs.Chain.{right_blocks}

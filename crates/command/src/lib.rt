@@ -3,6 +3,9 @@
 // The order is the document's, and nothing is written before the last check has passed. Of the text only the first 64 bytes are deciphered
 // before that; the payload is deciphered into the lent room at the end. What a refusal by 9 to 19 counts is what document 01 sets: all the
 // text's blocks.
+
+#![tactic(auto)]
+
 mod judge;
 
 ghost use Rattle.std.specs.Prelude.{◌≡◌, ◌+◌, ◌-◌, ◌≤◌, length, drop};
@@ -24,7 +27,7 @@ const TAG_WRONG: u8 = 8;
 const SECRET_WRONG: u8 = 19;
 
 // What a command is answered: the number, how many blocks were counted, and its inner fields, all 0 on a refusal.
-#[derive(Drop)]
+#[derive(Clone, Copy)]
 pub struct Heard {
     pub number: u8,
     pub blocks: usize,

@@ -1,7 +1,10 @@
-// AES-128 and GCM for C: what the benchmark and the differential tests link.
+// AES-128 and GCM as C calls them: `engine_c` gives these functions to the benchmark and the differential tests.
 //
 // Each function hands its answer out through what the caller lends. The number is document 01's: 0 for done, 7 for a room
 // that is too short, 8 for a wrong tag; a refusal writes nothing but the count of blocks.
+
+#![tactic(auto)]
+
 ghost use Rattle.std.specs.Prelude.{◌≡◌};
 ghost use Rattle.octets.specs.Room.{fits};
 ghost use Rattle.aes.specs.Cipher.{cipher};
@@ -17,36 +20,28 @@ const ROOM_SHORT: u8 = 7;
 const TAG_WRONG: u8 = 8;
 
 // out := CIPH_key (block)
-#[unsafe(no_mangle)]
-pub extern "C" fn dq_aes128_encrypt(key: &[u8; 16], block: &[u8; 16], out: &mut [u8; 16])
+pub fn dq_aes128_encrypt(key: &[u8; 16], block: &[u8; 16], out: &mut [u8; 16])
     ensures { out.new ≡ cipher key.now block.now }
 {
     *out = aes::encrypt(*key, *block);
 }
 
 // out := the prepared key
-#[unsafe(no_mangle)]
-pub extern "C" fn dq_aes128_prepare(key: &[u8; 16], out: &mut aes::Prepared)
+pub fn dq_aes128_prepare(key: &[u8; 16], out: &mut aes::Prepared)
     ensures { out.new ≡ prepared key.now }
 {
     *out = aes::prepare(*key);
 }
 
 // out := the encryption of block under a prepared key
-#[unsafe(no_mangle)]
-pub extern "C" fn dq_aes128_encrypt_prepared(
-    p: &aes::Prepared,
-    block: &[u8; 16],
-    out: &mut [u8; 16],
-)
+pub fn dq_aes128_encrypt_prepared(p: &aes::Prepared, block: &[u8; 16], out: &mut [u8; 16])
     ensures { out.new ≡ under p.now block.now }
 {
     *out = aes::encrypt_prepared(p, *block);
 }
 
 // Seals text into the start of room, and its tag into tag; blocks := how many blocks were enciphered.
-#[unsafe(no_mangle)]
-pub extern "C" fn dq_gcm_seal(
+pub fn dq_gcm_seal(
     key: &[u8; 16],
     iv: &[u8; 12],
     a: &[u8],
@@ -74,8 +69,7 @@ pub extern "C" fn dq_gcm_seal(
 }
 
 // Opens text into the start of room where tag is right; blocks := how many blocks were enciphered.
-#[unsafe(no_mangle)]
-pub extern "C" fn dq_gcm_open(
+pub fn dq_gcm_open(
     key: &[u8; 16],
     iv: &[u8; 12],
     a: &[u8],

@@ -1,5 +1,8 @@
 // The fields of command and reply packets, read and laid out (document 01, "Command packet"; 000, figure 2). Server and client share these. Every
 // function takes all inputs.
+
+#![tactic(auto)]
+
 ghost use Rattle.std.specs.Prelude.{◌≡◌};
 ghost use Rattle.octets.specs.Room.{filled};
 ghost use Rattle.fields.specs.Command.{order_of, command_lead, open_lead};
@@ -7,7 +10,7 @@ ghost use Rattle.fields.specs.Reply.{reply_vector, reply_lead};
 
 // The inner fields of a command, in the order of document 01 but for the payload.
 #[repr(C)]
-#[derive(Drop)]
+#[derive(Clone, Copy)]
 pub struct Order {
     pub client: u16,
     pub sequence: u16,

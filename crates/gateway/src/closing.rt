@@ -5,7 +5,7 @@ ghost use Rattle.gateway.specs.Close.{close_refusal, closing};
 use crate::{NO_HOST, UNSOUND, plain_answer};
 
 // What a close answers, and the records after it.
-#[derive(Drop)]
+#[derive(Clone, Copy)]
 pub struct Closed {
     pub answer: capability::Answer,
     pub records: state::Records,

@@ -3,7 +3,7 @@ ghost use Rattle.std.specs.Prelude.{◌≡◌};
 ghost use Rattle.gateway.specs.Command.{commanding, command_room};
 
 // What a command is answered, and the records after it.
-#[derive(Drop)]
+#[derive(Clone, Copy)]
 pub struct Commanded {
     pub heard: command::Heard,
     pub records: state::Records,

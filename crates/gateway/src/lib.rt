@@ -1,6 +1,9 @@
 // The server's calls, by value over the parts of the state that they read (document 01, "Handshake", "Command packet", "Numbers of
 // refusal"). Each judges a view of the state by its table of refusals, in the document's order, and acts once the last check has passed: a
 // refusal hands the parts back as they were and writes nothing. Every call takes all inputs, a state that nobody loaded too.
+
+#![tactic(auto)]
+
 mod closing;
 mod commanding;
 mod proving;

@@ -16,7 +16,7 @@ const NOT_WAITING: u8 = 26;
 const CHALLENGE_DIFFERS: u8 = 27;
 
 // What a proof answers, and the records after it.
-#[derive(Drop)]
+#[derive(Clone, Copy)]
 pub struct Proved {
     pub answer: capability::Answer,
     pub records: state::Records,

@@ -11,7 +11,7 @@ const NOT_OWED: u8 = 29;
 const PAYLOAD_ABOVE: u8 = 30;
 
 // What a reply answers, and the records after it.
-#[derive(Drop)]
+#[derive(Clone, Copy)]
 pub struct Replied {
     pub answer: capability::Answer,
     pub records: state::Records,

@@ -19,7 +19,7 @@ const NAME_LENGTH: u8 = 22;
 const NO_NAME: u8 = 23;
 
 // What a request answers, the number of the host named (0 on a refusal), and the records after it.
-#[derive(Drop)]
+#[derive(Clone, Copy)]
 pub struct Requested {
     pub answer: capability::Answer,
     pub host: u16,

@@ -9,7 +9,7 @@ const NO_INTERFACE: u8 = 14;
 const NO_ENTRY: u8 = 15;
 
 // What a revocation answers, and the rights after it.
-#[derive(Drop)]
+#[derive(Clone, Copy)]
 pub struct Revoked {
     pub answer: capability::Answer,
     pub rights: state::Rights,

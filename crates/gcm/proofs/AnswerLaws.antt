@@ -2,7 +2,7 @@
 -- to the start of a room is what is worked on; and the answer where the room holds the text, and where it doesn't.
 use mathlib.Core.Path.{◌≡◌, refl, sym, ap, ap₂, ◌∙◌}
 use mathlib.Core.Bool.{Bool, true, false}
-use mathlib.Core.List.{List, [], ◌∷◌, ◌++◌}
+use mathlib.Core.List.{List, ◌∷◌, ◌++◌}
 use Prim.Native.Nat.{ℕ, suc, ◌+◌, ◌≤◌, ◌<◌}
 use native.Mathlib.Omega.{arith}
 use borrow.Author.Tests.{le-leb, lt-leb}
@@ -17,10 +17,9 @@ use Rattle.aes.proofs.PreparedLaws.{under-prepared-all}
 use Rattle.aes.proofs.CipherLaws.{cipher-length}
 use Rattle.ghash.specs.Ghash.{blocks_in}
 use Rattle.gcm.specs.Gctr.{Out, inc32, gctr}
-use Rattle.gcm.specs.Gcm.{zeros, subkey, j0, tag_of, Sealed, seal, Opened, fail, plain, open_if, open_under, open'}
+use Rattle.gcm.specs.Gcm.{zeros, subkey, j0, tag_of, Sealed, seal, Opened, open_if, open_under, open'}
 use Rattle.gcm.specs.Answers.{sealing, room_sealed, opening, room_opened}
 use Rattle.gcm.specs.declared.Sealing.{Sealing}
-use Rattle.gcm.specs.declared.Opening.{Opening}
 use Rattle.gcm.specs.declared.Opening.TheVariants.{Short, Fail, Plain}
 use Rattle.gcm.proofs.GctrLaws.{gctr-length, gctr-count}
 use Rattle.gcm.proofs.GcmLaws.{tag-count, seal-count, seal-length}

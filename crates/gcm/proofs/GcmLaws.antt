@@ -1,14 +1,14 @@
 -- The tag is one block; sealing and opening under a subkey encipher a block for each block of text, and one for the tag; the
 -- subkey is one more.
-use mathlib.Core.Path.{◌≡◌, refl, sym, ap, ap₂, ◌∙◌}
-use mathlib.Core.List.{List, [], ◌∷◌, ◌++◌, append-nil}
+use mathlib.Core.Path.{◌≡◌, sym, ap, ◌∙◌}
+use mathlib.Core.List.{List, append-nil}
 use Prim.Native.Nat.{ℕ, ◌+◌}
 use native.Mathlib.Omega.{arith}
 use lib.ListN.{length, length-append}
 use Rattle.ghash.specs.Ghash.{blocks_in, hash_of}
 use Rattle.ghash.proofs.HashLaws.{length-hash}
 use Rattle.gcm.specs.Gctr.{Out, inc32, counters, stream, xors, gctr}
-use Rattle.gcm.specs.Gcm.{counter, j0, tag_of, subkey, Sealed, seal_under, seal}
+use Rattle.gcm.specs.Gcm.{counter, j0, tag_of, subkey, seal_under, seal}
 use Rattle.gcm.proofs.GctrLaws.{inc32-counter, gctr-length, gctr-count}
 
 -- the text is enciphered from the second counter block on

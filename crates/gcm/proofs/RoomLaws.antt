@@ -1,11 +1,11 @@
 -- Arrays written out byte by byte, and the bytes of a room ⊕ a block, stored one after the other.
-use mathlib.Core.Path.{◌≡◌, refl, sym, ap, ap₂, ◌∙◌}
+use mathlib.Core.Path.{◌≡◌, sym, ap, ap₂, ◌∙◌}
 use mathlib.Core.List.{List, [], ◌∷◌, ◌++◌, append-nil}
-use Prim.Native.Nat.{ℕ, zero, suc, ◌+◌, ◌-◌, ◌*◌, ◌/◌, ◌%◌, ◌^◌, ◌≤◌, ◌<◌, min}
-use native.Mathlib.Nat.{add-zero, div-one}
+use Prim.Native.Nat.{ℕ, zero, suc, ◌+◌, ◌-◌, ◌/◌, ◌%◌, ◌≤◌, ◌<◌, min}
+use native.Mathlib.Nat.{div-one}
 use native.Mathlib.Numerals.{add-one}
 use native.Mathlib.Omega.{arith}
-use lib.ListN.{length, get_or, set, take, drop, length-drop, drop_of_length-le}
+use lib.ListN.{length, get_or, set, drop, length-drop, drop_of_length-le}
 use lib.Seq.{drop-cons, get_or-drop, paste, paste-suc, drop-paste}
 use lib.Bits.{bit_xor}
 use Rattle.octets.specs.Room.{over}

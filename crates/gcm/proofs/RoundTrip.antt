@@ -1,8 +1,8 @@
 -- What is sealed is opened again, with the same text; what opens was sealed so: sealing its text gives the same bytes and tag.
 -- And how long the text is and how many blocks each enciphers: 2 for a wrong tag, 2 and the text's blocks otherwise.
-use mathlib.Core.Path.{◌≡◌, refl, sym, ap, ap₂, ◌∙◌}
+use mathlib.Core.Path.{◌≡◌, refl, sym, ap, ◌∙◌}
 use mathlib.Core.Bool.{Bool, true, false}
-use mathlib.Core.List.{List, [], ◌∷◌, ◌++◌}
+use mathlib.Core.List.{List, ◌∷◌, ◌++◌}
 use Prim.Native.Nat.{ℕ, suc, ◌+◌}
 use native.Mathlib.Omega.{arith}
 use lib.ListN.{length, length-append}
@@ -10,7 +10,7 @@ use Rattle.octets.specs.Same.{same}
 use Rattle.octets.proofs.SameLaws.{same_refl, same_true}
 use Rattle.ghash.specs.Ghash.{blocks_in}
 use Rattle.gcm.specs.Gctr.{Out, inc32, gctr}
-use Rattle.gcm.specs.Gcm.{zeros, subkey, j0, tag_of, seal_under, seal, Opened, fail, plain, open_if, open_under, open'}
+use Rattle.gcm.specs.Gcm.{zeros, subkey, j0, tag_of, seal_under, seal, fail, plain, open_if, open_under, open'}
 use Rattle.gcm.proofs.GctrLaws.{gctr-length, gctr-twice, gctr-count}
 use Rattle.gcm.proofs.GcmLaws.{tag-count}
 

@@ -2,6 +2,9 @@
 //
 // `seal` and `open` take a key. Below them stands the work under a prepared key and a given subkey, for whoever keeps these:
 // `seal_in_place`, `authentic` and `crypt`. Every function takes all inputs, of every length.
+
+#![tactic(auto)]
+
 mod gctr;
 
 ghost use Rattle.std.specs.Prelude.{◌≡◌};
@@ -15,7 +18,7 @@ ghost use Rattle.gcm.specs.Answers.{sealing, room_sealed, opening, room_opened};
 pub use gctr::{blocks_in, crypt};
 
 // What `seal` answers: whether the room holds the text; the tag and how many blocks were enciphered, 0s where it doesn't.
-#[derive(Drop)]
+#[derive(Clone, Copy)]
 pub struct Sealing {
     pub sealed: bool,
     pub tag: [u8; 16],
@@ -24,7 +27,7 @@ pub struct Sealing {
 
 // What `open` answers: the room is shorter than the text; or the tag is wrong; or the text was opened. With the number of
 // blocks enciphered.
-#[derive(Drop)]
+#[derive(Clone, Copy)]
 pub enum Opening {
     Short,
     Fail { blocks: usize },

@@ -1,4 +1,4 @@
--- Multiplying by x^32 and by x^64 in one go: each bit that is shifted out brings back r_128, and together they bring back L, L >> 1,
+-- Multiplying by x^32 and by x^64 in one go: each bit that is shifted out brings back R, and together they bring back L, L >> 1,
 -- L >> 2 and L >> 7. By induction on the number of steps, up to 120, and then in the two words of a block.
 use mathlib.Core.Path.{◌≡◌, refl, sym, ap, ap₂, ◌∙◌}
 use Prim.Native.Nat.{ℕ, zero, suc, ◌+◌, ◌-◌, ◌*◌, ◌/◌, ◌%◌, ◌^◌, ◌≤◌, ◌<◌}
@@ -53,7 +53,7 @@ back-digit a (suc zero) n hc =
     ∙ sym (add-mul (a * 2) 1 (2 ^ n)))
 back-digit a (suc (suc c)) n hc = absurd (omega arith)
 
--- r_128 after k steps
+-- R after k steps
 r_128-after : (k n : ℕ) → suc k + n ≡ 128 → 8 ≤ n → v_i r_128 k ≡ back (2 ^ n)
 r_128-after k n e h =
     let m : ℕ = n - 7 in

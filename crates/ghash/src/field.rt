@@ -10,7 +10,7 @@ ghost use Rattle.ghash.specs.Field.{next_z, next_v, v_i, dot};
 ghost use Rattle.ghash.specs.Words.{num};
 
 // A block as two words, the first bits in hi, the first bit of a word highest.
-#[derive(Drop)]
+#[derive(Clone, Copy)]
 pub(crate) struct Block {
     pub hi: u64,
     pub lo: u64,
@@ -37,7 +37,7 @@ fn add(b: u64, z: Block, v: Block) -> Block
     }
 }
 
-// v times x: v >> 1, ⊕ r_128 where the bit shifted out is 1.
+// v times x: v >> 1, ⊕ R where the bit shifted out is 1.
 fn times_x(v: Block) -> Block
     ensures { num result ≡ next_v (num v) }
 {
@@ -48,7 +48,7 @@ fn times_x(v: Block) -> Block
     }
 }
 
-// v times x^32: v >> 32, and r_128 brings back the 32 bits shifted out, L, as L, L >> 1, L >> 2 and L >> 7.
+// v times x^32: v >> 32, and R brings back the 32 bits shifted out, L, as L, L >> 1, L >> 2 and L >> 7.
 fn times_x32(v: Block) -> Block
     ensures { num result ≡ v_i (num v) 32 }
 {
@@ -59,7 +59,7 @@ fn times_x32(v: Block) -> Block
     }
 }
 
-// v times x^64: the low word L becomes the high one, and r_128 brings back L, L >> 1, L >> 2 and L >> 7.
+// v times x^64: the low word L becomes the high one, and R brings back L, L >> 1, L >> 2 and L >> 7.
 fn times_x64(v: Block) -> Block
     ensures { num result ≡ v_i (num v) 64 }
 {

@@ -1,6 +1,9 @@
 // GHASH of SP 800-38D, sections 6.3 and 6.4, as section 7.1 uses it: the plain engine, for the smallest box.
 //
 // There is no table. In this source no byte decides a branch or an index.
+
+#![tactic(auto)]
+
 mod blocks;
 mod field;
 

@@ -1,5 +1,5 @@
 -- The first fault of an ordered list of checks: in two parts, and thing by thing as a loop comes to them.
-use mathlib.Core.Path.{◌≡◌, refl, sym, ap, ◌∙◌}
+use mathlib.Core.Path.{◌≡◌, refl, sym, ◌∙◌}
 use mathlib.Core.Logic.{◌≢◌}
 use mathlib.Core.Bool.{Bool, true, false}
 use mathlib.Core.List.{List, [], ◌∷◌, ◌++◌}
@@ -7,7 +7,7 @@ use Prim.Native.Nat.{ℕ, zero, suc, ◌+◌, ◌-◌, ◌<◌, ◌≤◌}
 use native.Mathlib.Numerals.{add-one}
 use native.Mathlib.Omega.{arith}
 use Rattle.octets.specs.Checks.{pick, is_zero}
-use Rattle.grammar.specs.Faults.{Check, ◌at◌when◌, none, one, first, each, ◌else◌}
+use Rattle.grammar.specs.Faults.{Check, none, one, first, each, ◌else◌}
 use Rattle.grammar.specs.declared.Fault.{Fault}
 
 -- a fault decides, whatever comes after, and none gives way

@@ -6,7 +6,7 @@ use Rattle.octets.specs.Little.{number}
 use Rattle.layout.specs.Layout.{format, rows, total, kind, id, start, size, hosts_before, expected, lead, name_start, name}
 use Rattle.grammar.specs.Names.{letter, inner_space, fitting}
 use Rattle.grammar.specs.Faults.{fault, none, first, each}
-use Rattle.grammar.specs.Checks.{kind_fits, ordinal, size_fits, letter_checks, used_below, name_checks, body_checks, fault_of}
+use Rattle.grammar.specs.Checks.{kind_fits, ordinal, size_fits, used_below, name_checks, body_checks, fault_of}
 
 -- the document's book of 23 bytes, its last byte c: one host of no group, with a name of one byte
 abbrev small : ℕ → List ℕ

@@ -1,5 +1,5 @@
 -- Document 01, "Numbers of refusal", the book: the checks of a book in the document's order, each with its place.
-use Rattle.std.specs.Prelude.{ℕ, zero, suc, ◌+◌, ◌*◌, ◌-◌, ◌^◌, Bool, true, false, not, ◌&&◌, ◌||◌, List, [], ◌∷◌, ◌++◌, leb, ltb, eqb, length}
+use Rattle.std.specs.Prelude.{ℕ, zero, suc, ◌+◌, ◌*◌, ◌-◌, ◌^◌, Bool, false, not, ◌&&◌, ◌||◌, List, [], ◌∷◌, ◌++◌, ltb, eqb, length}
 use Rattle.octets.specs.Checks.{pick}
 use Rattle.octets.specs.Same.{same}
 use Rattle.octets.specs.Range.{between}

@@ -3,6 +3,9 @@
 // Every byte string is judged. Each letter and each word of a body is looked at once; each row is also looked at with every row before
 // it, and where both are of a kind their names are compared. A book has at most 12,232 bytes and 40 rows: 780 pairs of rows at
 // most, and 524 comparisons of names of at most 256 bytes.
+
+#![tactic(auto)]
+
 mod bodies;
 mod names;
 mod rows;
@@ -12,7 +15,7 @@ ghost use Rattle.grammar.specs.Faults.{first, fault, none};
 ghost use Rattle.grammar.specs.Checks.{head_checks, fault_of};
 
 // A refusal's number and the place of the fault; 0 at 0 for a good book.
-#[derive(Drop)]
+#[derive(Clone, Copy)]
 pub struct Fault {
     pub number: u8,
     pub offset: usize,

@@ -1,5 +1,8 @@
 // The fields of a book, read where they stand. A field that the book doesn't reach reads as the bytes that are there, so each
 // function takes all inputs. Rows and entries are counted from 0.
+
+#![tactic(auto)]
+
 ghost use Rattle.std.specs.Prelude.{◌≡◌, ◌<◌, ◌^◌};
 ghost use Rattle.layout.specs.Layout as L;
 

@@ -1,4 +1,7 @@
 // A state, or a refused book, as text that a person can read (document 01, "Samples", the listing).
+
+#![tactic(auto)]
+
 mod lines;
 mod text;
 
@@ -6,7 +9,7 @@ ghost use Rattle.std.specs.Prelude.{◌≡◌};
 ghost use Rattle.listing.specs.Lines.{render_refusal, render_length, render_room, refused_length, refused_room};
 
 // What `render` answers: the number, and how many bytes were written at the start of the room.
-#[derive(Drop)]
+#[derive(Clone, Copy)]
 pub struct Rendered {
     pub number: u8,
     pub length: usize,

@@ -8,7 +8,7 @@ use native.Mathlib.Nat.{zero-add, suc-add}
 use native.Mathlib.Omega.{arith}
 use borrow.Author.Tests.{le-leb, lt-leb, leb-true, leb-false}
 use lib.Dec.{leb}
-use lib.ListN.{length, take, drop, replicate, length-append, length-take, length-drop, length-replicate, drop_of_length-le}
+use lib.ListN.{length, take, drop, replicate, length-take, length-drop, length-replicate, drop_of_length-le}
 use lib.Seq.{take_all, take-length, take-nil, take-take, drop-drop, drop_at, take-append-le, length-take-le, paste, length-paste, take-paste, drop-paste}
 use Rattle.octets.specs.Checks.{pick}
 use Rattle.octets.specs.Room.{part, over, placed, at_start, filled}

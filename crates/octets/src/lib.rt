@@ -2,6 +2,9 @@
 //
 // Document 01: "All numbers of ours are little-endian." Every public function takes all inputs: what is read past the end of a
 // slice counts as no byte, and what doesn't fit a room isn't placed.
+
+#![tactic(auto)]
+
 ghost use Rattle.std.specs.Prelude.{◌≡◌, ◌+◌, ◌≤◌, ◌^◌, ltb, length};
 ghost use Rattle.octets.specs.Little.{octets};
 ghost use Rattle.octets.specs.Room.{part, number_at, placed, sixteen_at};

@@ -3,23 +3,18 @@
 -- (specs/Dairies: `plant`).
 use mathlib.Core.Path.{◌≡◌, refl, sym, ap, subst, ◌∙◌}
 use mathlib.Core.Logic.{◌≢◌}
-use mathlib.Core.Bool.{Bool, false}
 use mathlib.Core.List.{List, [], ◌∷◌}
-use Prim.Native.Nat.{ℕ, zero, suc, ◌+◌, ◌-◌, ◌<◌, ◌^◌}
+use Prim.Native.Nat.{ℕ, zero, suc, ◌<◌}
 use native.Mathlib.Omega.{arith}
-use lib.ListN.{length, get_or, replicate}
+use lib.ListN.{length, get_or}
 use Rattle.octets.specs.Little.{octets}
 use Rattle.aes.proofs.Vectors.{zeroth, once, twice, chain-of-three}
 use Rattle.ghash.specs.Ghash.{blocks_in}
 use Rattle.capability.specs.Bytes.{id_of, four_at, secret_of}
-use Rattle.capability.specs.Chain.{all_ones, id_block, word_block, first_secret, step, chain, right_secret, before}
+use Rattle.capability.specs.Chain.{all_ones, first_secret, step, chain, right_secret, before}
 use Rattle.capability.proofs.BytesLaws.{id-back, four-back, secret-back, length-capability}
 use Rattle.state.specs.declared.State.{State}
-use Rattle.state.specs.declared.transitions.Record.{Record}
-use Rattle.state.specs.declared.transitions.Phase.{Phase}
-use Rattle.state.specs.declared.transitions.Phase.TheVariants.{Open}
 use Rattle.state.specs.Records.{last_of}
-use Rattle.client.specs.Seal.{command_bytes}
 use Rattle.promises.specs.Boxes.{Box, RefusesAll, AcceptsAll, KeepsState, first_word, StandsByFirst, FirstWordOnly, FirstWordChained, InventsCount}
 use Rattle.promises.specs.Counts.{command_count, words_in}
 use Rattle.promises.specs.Dairies.{master, room, asks, whole, narrower, fills, strays, fills_whole, claimed, claims, plant}
@@ -28,13 +23,13 @@ use Rattle.promises.specs.Places.{interface_said, entry_said, command_said, word
 use Rattle.promises.specs.Ready.{packet_of, WellFormed}
 use Rattle.promises.specs.Rules.{Hold, slice}
 use Rattle.promises.specs.Stands.{BitSet}
-use Rattle.promises.specs.Step.{Call, command, Said, answer, next}
+use Rattle.promises.specs.Step.{command, Said, answer, next}
 use Rattle.promises.proofs.Blocks.{blocks-command}
 use Rattle.promises.proofs.ByteLaws.{part_bytes}
 use Rattle.promises.proofs.Facts.{command-number}
 use Rattle.promises.proofs.Panel.{connected, whole-reached, narrower-reached, narrower-words, twos, formed-by, bytes-of, well-formed}
 use Rattle.promises.proofs.Panel.{connects, under-key, finds, word-there, fills-accepted, fills-leaves, strays-refused}
-use Rattle.promises.proofs.ReachedLaws as r_128
+use Rattle.promises.proofs.ReachedLaws as R
 use Rattle.promises.proofs.ReachedLaws.{issued-words, capability-bytes}
 use Rattle.promises.proofs.Ready.{built-long, built-words, built-interface, built-entry, built-command, built-secret, built-upto18}
 use Rattle.promises.proofs.RuleLaws.{fails, hold-first}
@@ -126,7 +121,7 @@ abbrev claimed_words : List ℕ
 claimed_words = 12 ∷ 6 ∷ all_ones ∷ all_ones ∷ []
 
 narrower-secret : secret_of narrower ≡ once
-narrower-secret = (r_128.whole master 1 (omega arith) narrower narrower-reached).secret ∙ ap (right_secret master 1) narrower-words ∙ chained.0
+narrower-secret = (R.whole master 1 (omega arith) narrower narrower-reached).secret ∙ ap (right_secret master 1) narrower-words ∙ chained.0
 
 claimed-id : id_of claimed ≡ 1
 claimed-id = id-back 1 claimed_words (secret_of narrower) (omega arith)

@@ -1,25 +1,19 @@
 -- "which number a refusal gives, as the first fact of the order that fails", of every server call: so a call is accepted exactly when its facts hold.
-use mathlib.Core.Path.{◌≡◌, refl, sym, ap, subst, ◌∙◌}
-use mathlib.Core.Logic.{◌≢◌}
-use mathlib.Core.Bool.{Bool, true, false, not, ◌&&◌, true≢false, false≢true}
-use mathlib.Core.List.{List, [], ◌∷◌}
-use Prim.Native.Nat.{ℕ, zero, suc, ◌+◌, ◌-◌, ◌≤◌, ◌<◌}
-use native.Mathlib.Omega.{arith}
+use mathlib.Core.Path.{◌≡◌, refl, ap, subst}
+use mathlib.Core.Bool.{true, false, true≢false, false≢true}
+use mathlib.Core.List.{List, []}
+use Prim.Native.Nat.{ℕ, zero, suc, ◌+◌}
 use borrow.Author.Tests.{not-false, eqb-true, eq-eqb, ltb-false, le-ltb}
-use lib.Dec.{eqb}
-use lib.ListN.{length, drop}
-use Rattle.octets.specs.Checks.{pick, ◌then◌, is_zero}
+use lib.ListN.{length}
+use Rattle.octets.specs.Checks.{is_zero}
 use Rattle.octets.specs.Little.{number}
-use Rattle.octets.proofs.CheckLaws.{and_left, and_right}
 use Rattle.octets.proofs.RangeLaws.{between-both, both-between}
 use Rattle.octets.proofs.SameLaws.{same_true, same_refl}
 use Rattle.state.specs.declared.State.{State}
 use Rattle.state.specs.declared.transitions.Phase.{Phase}
 use Rattle.state.specs.declared.transitions.Phase.TheVariants.{Idle, Waiting, Open}
-use Rattle.state.specs.Sound.{sound_rights, SoundFacts}
 use Rattle.state.proofs.SoundLaws.{sound-facts, of-sound}
-use Rattle.view.specs.Counted.{no_such}
-use Rattle.view.specs.Phases.{is_open, is_waiting, owes}
+use Rattle.view.specs.Phases.{is_waiting, owes}
 use Rattle.view.specs.View.{see}
 use Rattle.view.proofs.CountedLaws.{such, place-there}
 use Rattle.view.proofs.ViewLaws.{entries-there}
@@ -29,11 +23,11 @@ use Rattle.gateway.specs.Request.{found, asked, form_refusal, request_refusal, r
 use Rattle.gateway.specs.Proof.{proof_refusal, proving}
 use Rattle.gateway.specs.Reply.{reply_refusal, replying}
 use Rattle.promises.specs.CallFacts.{Known, call_facts}
-use Rattle.promises.specs.Rules.{Rule, Hold, Gives, slice}
+use Rattle.promises.specs.Rules.{Hold, Gives, slice}
 use Rattle.promises.specs.Step.{Call, request, proof, command, reply, close, revoke, answer}
 use Rattle.promises.specs.Typed.{Typed}
 use Rattle.promises.proofs.Facts.{command-number}
-use Rattle.promises.proofs.Found.{found-names, found_none}
+use Rattle.promises.proofs.Found.{found-names, found-none}
 use Rattle.promises.proofs.RuleLaws.{counted, row, stages, zero-hold, hold-zero}
 use Rattle.promises.proofs.TestLaws.{named-such, open-phase}
 
@@ -61,7 +55,7 @@ owing-phase (Open last false) n e = absurd (false≢true e)
 pub known-found : (s : State) (name : List ℕ) → Known s name → is_zero (found s.rights s.names name) ≡ false
 known-found s name k = by (found s.rights s.names name) refl where
   by : (n : ℕ) → found s.rights s.names name ≡ n → is_zero n ≡ false
-  by zero e = absurd (found_none s.rights s.names name e k.place k.low k.named)
+  by zero e = absurd (found-none s.rights s.names name e k.place k.low k.named)
   by (suc n) e = refl
 
 found-known : (s : State) (name : List ℕ) → is_zero (found s.rights s.names name) ≡ false → Known s name

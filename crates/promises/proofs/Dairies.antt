@@ -1,14 +1,12 @@
 -- The two dairies of specs/Dairies. Their books are good, and alike but for the mixer, by computation; then what the state loaded from the north book
 -- holds of the panel and the filler.
-use mathlib.Core.Path.{◌≡◌, refl, sym, ap, subst, ◌∙◌}
-use mathlib.Core.Logic.{◌≢◌, inl, inr}
-use mathlib.Core.Bool.{Bool, true, false}
-use mathlib.Core.List.{List, [], ◌∷◌, ◌++◌}
-use Prim.Native.Nat.{ℕ, zero, suc, ◌≤◌, ◌<◌, ◌^◌, ◌/◌, ◌%◌}
+use mathlib.Core.Path.{◌≡◌, refl, sym, ap, subst}
+use mathlib.Core.Logic.{◌≢◌}
+use mathlib.Core.List.{List, [], ◌∷◌}
+use Prim.Native.Nat.{ℕ}
 use native.Mathlib.Omega.{arith}
 use borrow.Author.Tests.{eqb-true}
-use lib.Bits.{bit_and}
-use lib.ListN.{length, get_or}
+use lib.ListN.{get_or}
 use Rattle.octets.specs.Little.{number, octets}
 use Rattle.octets.specs.Same.{same}
 use Rattle.layout.specs.Layout.{format, rows, total, kind, id, start, size, hosts_before, expected, group, secret, commands, entries, owner, word}
@@ -19,14 +17,13 @@ use Rattle.grammar.specs.Checks.{kind_fits, ordinal, size_fits, used_below, name
 use Rattle.grammar.specs.declared.Fault.{Fault}
 use Rattle.book.specs.Contents.{Entry, contents_of, host_count, hosts_from, interfaces_from, entries_from}
 use Rattle.book.specs.States.{fill, laid, rights_of, names_of, state_of, loaded_with, loaded}
-use Rattle.state.specs.declared.State.{State}
 use Rattle.state.specs.declared.Rights.{Rights}
 use Rattle.state.specs.Sound.{sound_rights, all_within, all_interfaces, interface_sound, all_words, all_below}
 use Rattle.view.specs.Counted.{no_such, place}
 use Rattle.view.specs.Right.{right_of}
 use Rattle.gateway.specs.Request.{name_at, found, found_from, form_refusal, request_refusal, requesting}
 use Rattle.gateway.specs.Revoke.{revoke_refusal, revoking}
-use Rattle.promises.specs.Books.{host_in, interface_in, InBook, SameContents, AlikeBooks}
+use Rattle.promises.specs.Books.{interface_in, InBook, SameContents, AlikeBooks}
 use Rattle.promises.specs.Dairies.{dairy, north, south, the_panel, the_filler, master, hello, proven, fills, scale_asks, mixer_loses}
 use Rattle.promises.specs.Series.{after}
 use Rattle.promises.specs.Step.{answer, next}

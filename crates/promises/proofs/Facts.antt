@@ -1,17 +1,14 @@
 -- Demand 2: "which number a refusal gives, as the first fact of the order that fails". Each row of the check's tables fails just where its fact does.
 use mathlib.Core.Path.{◌≡◌, refl, ap, subst}
-use mathlib.Core.Logic.{◌⊎◌, inl, inr}
-use mathlib.Core.Bool.{Bool, true, false, not, ◌||◌, false≢true}
+use mathlib.Core.Bool.{Bool, true, false, false≢true}
 use mathlib.Core.List.{List, [], ◌∷◌, ◌++◌}
-use Prim.Native.Nat.{ℕ, zero, suc, ◌+◌, ◌*◌, ◌-◌, ◌≤◌, ◌<◌}
+use Prim.Native.Nat.{ℕ, suc, ◌+◌, ◌*◌, ◌-◌, ◌≤◌, ◌<◌}
 use native.Mathlib.Omega.{arith}
 use borrow.Author.Tests.{not-false, eqb-true, eq-eqb, ltb-true, ltb-false, lt-ltb, le-ltb, leb-false, lt-leb}
-use lib.Dec.{eqb}
 use lib.ListN.{length, get_or, drop, length-drop}
-use Rattle.octets.specs.Checks.{pick, ◌then◌, is_zero, refusal, ◌when◌}
 use Rattle.octets.specs.Little.{number}
 use Rattle.octets.specs.Room.{part, number_at}
-use Rattle.octets.proofs.CheckLaws.{and_left, and_right, and_both}
+use Rattle.octets.proofs.CheckLaws.{and_both}
 use Rattle.octets.proofs.LittleLaws.{number-byte}
 use Rattle.octets.proofs.RoomLaws.{filled-there}
 use Rattle.octets.proofs.SameLaws.{same_true, same_refl}
@@ -25,9 +22,7 @@ use Rattle.capability.specs.Rights.{allows, all_allow, permitted}
 use Rattle.state.specs.declared.State.{State}
 use Rattle.state.specs.declared.Rights.{Rights}
 use Rattle.state.specs.declared.transitions.Record.{Record}
-use Rattle.state.specs.declared.transitions.Phase.{Phase}
-use Rattle.state.specs.declared.transitions.Phase.TheVariants.{Idle, Waiting, Open}
-use Rattle.state.specs.Sound.{sound_rights, SoundFacts}
+use Rattle.state.specs.Sound.{sound_rights}
 use Rattle.state.proofs.SoundLaws.{sound-facts, of-sound}
 use Rattle.view.specs.Counted.{no_such}
 use Rattle.view.specs.Phases.{is_open, fresh}
@@ -37,16 +32,15 @@ use Rattle.view.specs.declared.View.{View}
 use Rattle.view.specs.declared.Right.{Right}
 use Rattle.view.proofs.CountedLaws.{such, place-there}
 use Rattle.view.proofs.ViewLaws.{commands-there, entries-there, owner-there, word-there, secret-there}
-use Rattle.fields.specs.Command.{client_of, additional, vector_of, tag_in, encrypted, order_of}
+use Rattle.fields.specs.Command.{order_of}
 use Rattle.packet.specs.Sealed.{right_tag, text_of}
 use Rattle.packet.proofs.CommandLaws.{text-length}
 use Rattle.command.specs.Command.{ciph_of, outer, tagged, text, order, inner, named, rightful, genuine, judged, opening, weighed, command_refusal}
 use Rattle.command.specs.Heard.{heard}
-use Rattle.command.proofs.HeardLaws.{tag_right}
 use Rattle.gateway.specs.Command.{command_heard}
 use Rattle.promises.specs.Step.{command, answer}
-use Rattle.promises.specs.Rules.{Rule, Hold, Gives, slice}
-use Rattle.promises.specs.Facts.{text_in, Authentic, OpenWith, facts_of, command_facts, Opens}
+use Rattle.promises.specs.Rules.{Rule, Gives, slice}
+use Rattle.promises.specs.Facts.{text_in, OpenWith, facts_of, command_facts, Opens}
 use Rattle.promises.specs.Places.{record_at, words_said}
 use Rattle.promises.specs.Stands.{Names}
 use Rattle.promises.specs.Typed.{Typed}

@@ -74,27 +74,29 @@ module _ (r : Rights) (names name : List ℕ) where
       (omega arith, known.2, λ k l. known.3 k (omega arith) l)
 
   -- where none is found, no host has it
-  pub found_none : found r names name ≡ 0 → (k : ℕ) → k < r.hosts → name_at r names k ≢ name
+  pub found-none : found r names name ≡ 0 → (k : ℕ) → k < r.hosts → name_at r names k ≢ name
   unfolding found
-  found_none e k l = none_from 0 r.hosts e k (omega arith) (omega arith)
+  found-none e k l = none_from 0 r.hosts e k (omega arith) (omega arith)
 
   -- the lowest host of the name is found
   pub found-is : (m : ℕ) → m < r.hosts → name_at r names m ≡ name → ((k : ℕ) → k < m → name_at r names k ≢ name) → found r names name ≡ suc m
+  unfolding found
   found-is m l e low = by_number (found r names name) refl where
     by_number : (n : ℕ) → found r names name ≡ n → n ≡ suc m
-    by_number zero q = absurd (found_none q m l e)
+    by_number zero q = absurd (found-none q m l e)
     by_number (suc k) q =
-        let known = found-names k q in
-        let above : ¬ (k < m) = λ u. low k u known.1 in
-        let below : ¬ (m < k) = λ u. known.2 m u e in
+        let known = names-from 0 r.hosts k q in
+        let above : ¬ (k < m) = λ u. low k u known.2 in
+        let below : ¬ (m < k) = λ u. known.3 m (omega arith) u e in
         omega arith
 
   -- the number found is that of a host, or 0
   pub found-low : found r names name ≤ r.hosts
+  unfolding found
   found-low = by_number (found r names name) refl where
     by_number : (n : ℕ) → found r names name ≡ n → n ≤ r.hosts
     by_number zero q = omega arith
-    by_number (suc k) q = let known = found-names k q in omega arith
+    by_number (suc k) q = let known = names-from 0 r.hosts k q in omega arith
 
 -- ---- of an accepted request
 

@@ -45,3 +45,7 @@ pub mod Dairies
 pub mod Panel
 pub mod NotEmpty
 pub mod Boxes
+pub mod PlacedRuleLaws
+pub mod WhenLaws
+pub mod NameFacts
+pub mod BookFacts

@@ -2,8 +2,6 @@
 -- contract as the check reads it out of the source: of a call with the arguments a, in their order, its result x and its parameters d at exit. A
 -- call by value reads and returns parts of a state; s is a state of which the arguments are parts, and `next` is s with the returned part.
 use mathlib.Core.Path.{◌≡◌, refl}
-use mathlib.Core.List.{List}
-use Prim.Native.Nat.{ℕ}
 use contract.Lifetimes.{Lfts}
 use Rattle.gateway.proofs as Gateway
 use Rattle.state.specs.declared.State.{State}

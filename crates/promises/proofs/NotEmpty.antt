@@ -16,7 +16,7 @@ use Rattle.client.specs.Seal.{command_bytes}
 use Rattle.promises.specs.Dairies.{north, south, the_panel, the_filler, panel, greeting, fresh, third, room, hello, proven, narrower, fills}
 use Rattle.promises.specs.Dairies.{strays, takes, fills_again, north_day, south_day, NotEmpty}
 use Rattle.promises.specs.Series.{after}
-use Rattle.promises.specs.Step.{Call, answer, next}
+use Rattle.promises.specs.Step.{Call, next}
 use Rattle.promises.specs.Told.{mine, keep, Told, heard, AllNamed}
 use Rattle.promises.proofs.Alike.{alike_refl}
 use Rattle.promises.proofs.Alone.{named-whole, heard-alone}
@@ -24,7 +24,7 @@ use Rattle.promises.proofs.Books.{alike-loads}
 use Rattle.promises.proofs.Dairies.{panel-there, mixers-apart, books-alike, scale-asks, mixer-loses}
 use Rattle.promises.proofs.Handshake.{request-accepted, proof-accepted}
 use Rattle.promises.proofs.Panel.{Panel, narrower-reached, narrower-words, well-made, connected, fills-accepted, fills-leaves, strays-refused}
-use Rattle.promises.proofs.Panel.{again-refused, takes-accepted, takes-leaves, names}
+use Rattle.promises.proofs.Panel.{again-refused, takes-leaves, names}
 use Rattle.promises.proofs.Refused.{refusal-keeps}
 
 -- the panel's calls and the revocation on the filler, by themselves

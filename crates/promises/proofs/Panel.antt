@@ -1,14 +1,14 @@
 -- What the panel's calls of specs/Dairies are answered, and what they leave, in any state that holds what the book says of the panel and the filler.
 use mathlib.Core.Path.{◌≡◌, refl, sym, ap, subst, ◌∙◌}
-use mathlib.Core.Logic.{◌≢◌, ◌⊎◌, inl, inr}
+use mathlib.Core.Logic.{◌⊎◌, inr}
 use mathlib.Core.Bool.{Bool, true, false}
-use mathlib.Core.List.{List, [], ◌∷◌, ◌++◌}
-use Prim.Native.Nat.{ℕ, zero, suc, ◌≤◌, ◌<◌, ◌^◌, ◌/◌, ◌%◌}
+use mathlib.Core.List.{List, [], ◌∷◌}
+use Prim.Native.Nat.{ℕ, zero, suc, ◌<◌}
 use native.Mathlib.Omega.{arith}
 use lib.Bits.{bit_and}
 use lib.ListN.{length, get_or, replicate}
 use Rattle.octets.specs.Little.{number, Bytes}
-use Rattle.octets.specs.Room.{part, number_at}
+use Rattle.octets.specs.Room.{part}
 use Rattle.capability.specs.Bytes.{id_of, four_at, narrowed, open?}
 use Rattle.capability.specs.Chain.{all_ones}
 use Rattle.book.specs.States.{loaded}
@@ -16,11 +16,9 @@ use Rattle.book.proofs.LoadLaws.{load-sound}
 use Rattle.state.specs.declared.State.{State}
 use Rattle.state.specs.declared.Rights.{Rights}
 use Rattle.state.specs.declared.transitions.Record.{Record}
-use Rattle.state.specs.declared.transitions.Phase.{Phase}
 use Rattle.state.specs.declared.transitions.Phase.TheVariants.{Open}
 use Rattle.state.specs.Sound.{sound_rights}
 use Rattle.state.proofs.SoundLaws.{sound-facts}
-use Rattle.view.specs.Right.{right_of}
 use Rattle.view.proofs.ViewLaws.{entries-there}
 use Rattle.gateway.specs.Revoke.{revoke_refusal, revoking}
 use Rattle.client.specs.Seal.{command_bytes}
@@ -33,14 +31,14 @@ use Rattle.promises.specs.Reached.{Reached, by-issue, by-narrowing}
 use Rattle.promises.specs.Ready.{Parts, packet_of, WellFormed, Connects, Finds, Permits, Genuine}
 use Rattle.promises.specs.Series.{after}
 use Rattle.promises.specs.Stands.{Names, BitSet}
-use Rattle.promises.specs.Step.{command, revoke, answer, next}
+use Rattle.promises.specs.Step.{command, answer, next}
 use Rattle.promises.specs.Told.{Named}
 use Rattle.promises.specs.Typed.{Typed}
 use Rattle.promises.proofs.Books.{typed-loaded}
 use Rattle.promises.proofs.Dairies.{Holds, holds-north, found-north}
 use Rattle.promises.proofs.Handshake.{handshake-opens}
 use Rattle.promises.proofs.Left.{accepted-leaves, revocation-leaves}
-use Rattle.promises.proofs.ReachedLaws as r_128
+use Rattle.promises.proofs.ReachedLaws as R
 use Rattle.promises.proofs.ReachedLaws.{issued-words, narrowing-words, reached-bytes}
 use Rattle.promises.proofs.Ready.{built-14, built-18, built-accepted, built-client, built-interface, built-number}
 use Rattle.promises.proofs.Sound.{sound-kept}
@@ -97,7 +95,7 @@ well-formed n i c l m r = formed-by n i c l m (bytes-of c r)
 
 -- their ID
 pub named-one : (c : List ℕ) → Reached master 1 c → id_of c ≡ 1
-named-one c r = (r_128.whole master 1 low c r).named
+named-one c r = (R.whole master 1 low c r).named
 
 -- ---- the panel is connected: its last accepted number, and the present word of the filler's entry
 

@@ -3,12 +3,12 @@
 use mathlib.Core.Path.{◌≡◌, refl, sym, ap, subst, ◌∙◌}
 use mathlib.Core.Bool.{Bool, true, false}
 use mathlib.Core.List.{List, [], ◌∷◌, ◌++◌}
-use Prim.Native.Nat.{ℕ, ◌+◌, ◌*◌, ◌-◌, ◌/◌, ◌%◌, ◌^◌, ◌≤◌, ◌<◌}
+use Prim.Native.Nat.{ℕ, ◌+◌, ◌-◌, ◌%◌, ◌^◌, ◌≤◌, ◌<◌}
 use native.Mathlib.Nat.{div-eq_of_lt}
 use native.Mathlib.Omega.{arith}
 use borrow.Author.Tests.{ltb-true, ltb-false}
 use lib.Dec.{ltb}
-use lib.ListN.{length, get_or, drop}
+use lib.ListN.{length, get_or}
 use lib.Pow.{pow_mono}
 use Rattle.octets.specs.Little.{number, octets}
 use Rattle.octets.specs.Room.{part, number_at, at_start}
@@ -22,7 +22,6 @@ use Rattle.packet.specs.Sealed.{sealed_packet}
 use Rattle.fields.specs.declared.Order.{Order}
 use Rattle.command.specs.Command.{tagged}
 use Rattle.client.specs.Seal.{ask_text, command_bytes}
-use Rattle.client.specs.declared.seal.Ask.{Ask}
 use Rattle.promises.specs.Step.{command, answer}
 use Rattle.promises.specs.Rules.{Hold, Gives, slice}
 use Rattle.promises.specs.Facts.{text_in, Authentic, command_facts}

@@ -5,14 +5,14 @@
 use mathlib.Core.Path.{◌≡◌, refl, sym, ap, ap₂, ◌∙◌}
 use mathlib.Core.Bool.{true, false≢true}
 use mathlib.Core.List.{List, [], ◌∷◌, ◌++◌, append_assoc, append-nil}
-use Prim.Native.Nat.{ℕ, ◌+◌, ◌-◌, ◌*◌, ◌≤◌, ◌<◌}
+use Prim.Native.Nat.{ℕ, ◌-◌, ◌*◌, ◌≤◌, ◌<◌}
 use native.Mathlib.Omega.{arith}
 use borrow.Author.Tests.{not-false, eqb-true, ltb-true, ltb-false, leb-false}
 use lib.Dec.{ltb}
 use lib.ListN.{length, drop, length-drop}
 use lib.Seq.{take-take, take-add, take_at, drop_at, drop-cons}
 use Rattle.octets.specs.Checks.{◌when◌, is_zero, Passed}
-use Rattle.octets.specs.Little.{number, octets, Bytes}
+use Rattle.octets.specs.Little.{octets, Bytes}
 use Rattle.octets.specs.Room.{part, number_at, placed, filled, at_start}
 use Rattle.octets.proofs.CheckLaws.{passed-of, then-passed, is_zero-true, pick_ind}
 use Rattle.octets.proofs.LittleLaws.{length-octets, number-byte}

@@ -1,7 +1,6 @@
 -- "Revocation replaces an entry's word by its AND with the given word, at once.": from an accepted revocation that takes a bit on, whatever calls
 -- are heard in between, a command that names that interface, that entry and that bit is refused: by 18, if nothing before 18 refuses it.
-use mathlib.Core.Path.{◌≡◌, refl, sym, subst, ◌∙◌}
-use mathlib.Core.Logic.{◌≢◌}
+use mathlib.Core.Path.{◌≡◌, refl, subst}
 use mathlib.Core.Bool.{Bool, true, false}
 use mathlib.Core.List.{List, [], ◌∷◌}
 use Prim.Native.Nat.{ℕ, zero, suc, ◌/◌, ◌%◌, ◌^◌}
@@ -9,7 +8,7 @@ use native.Mathlib.Omega.{arith}
 use borrow.Author.Tests.{eqb-true, eqb-false, eq-eqb}
 use lib.Bits.{bit_and}
 use lib.Dec.{eqb}
-use lib.ListN.{length, get_or}
+use lib.ListN.{length}
 use Rattle.octets.proofs.CheckLaws.{and_left, and_right}
 use Rattle.capability.specs.Rights.{allows}
 use Rattle.capability.proofs.RightsLaws.{allows-and}

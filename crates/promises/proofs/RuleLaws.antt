@@ -1,6 +1,6 @@
 -- Facts in an order: what the number that is given says of them.
 use mathlib.Core.Path.{◌≡◌, refl, sym, ◌∙◌}
-use mathlib.Core.Logic.{◌⊎◌, inl, inr}
+use mathlib.Core.Logic.{inl, inr}
 use mathlib.Core.Bool.{Bool, true, false, not, ◌&&◌, true≢false, false≢true}
 use mathlib.Core.List.{List, [], ◌∷◌, ◌++◌}
 use Prim.Native.Nat.{ℕ, zero, suc}
@@ -68,9 +68,9 @@ hold-first [] qs h = tt
 hold-first ((m unless F) ∷ rs) qs h = (h.0, hold-first rs qs h.1)
 
 -- an order of facts gives one number
-pub gives_one : (rs : List Rule) (n k : ℕ) → Gives rs n → Gives rs k → n ≡ k
-gives_one [] n k g h = g ∙ sym h
-gives_one ((m unless F) ∷ rs) n k (inl g) (inl h) = g.1 ∙ sym h.1
-gives_one ((m unless F) ∷ rs) n k (inl g) (inr h) = absurd (g.0 h.0)
-gives_one ((m unless F) ∷ rs) n k (inr g) (inl h) = absurd (h.0 g.0)
-gives_one ((m unless F) ∷ rs) n k (inr g) (inr h) = gives_one rs n k g.1 h.1
+pub gives-one : (rs : List Rule) (n k : ℕ) → Gives rs n → Gives rs k → n ≡ k
+gives-one [] n k g h = g ∙ sym h
+gives-one ((m unless F) ∷ rs) n k (inl g) (inl h) = g.1 ∙ sym h.1
+gives-one ((m unless F) ∷ rs) n k (inl g) (inr h) = absurd (g.0 h.0)
+gives-one ((m unless F) ∷ rs) n k (inr g) (inl h) = absurd (h.0 g.0)
+gives-one ((m unless F) ∷ rs) n k (inr g) (inr h) = gives-one rs n k g.1 h.1

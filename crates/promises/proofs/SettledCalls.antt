@@ -31,7 +31,7 @@ narrow-settles κs a x y d e = both
 
 -- ---- view
 
-pub no-such-settles : SettlesResult View.no_such_lem.Reads.Learnt
+pub no-such-settles : SettlesResult View.no_such.Reads.Learnt
 no-such-settles κs a x y d e = one
 
 pub see-settles : SettlesResult View.see.Reads.Learnt

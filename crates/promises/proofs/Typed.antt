@@ -1,7 +1,7 @@
 -- What the code's types say of a state: every call keeps it. (It holds of every loaded state: `typed-loaded` in Books.)
-use mathlib.Core.Path.{◌≡◌, refl}
+use mathlib.Core.Path.{◌≡◌}
 use mathlib.Core.List.{List, [], ◌∷◌}
-use Prim.Native.Nat.{ℕ, ◌-◌}
+use Prim.Native.Nat.{◌-◌}
 use lib.ListN.{length, length-set}
 use Rattle.octets.specs.Checks.{is_zero}
 use Rattle.octets.proofs.CheckLaws.{pick_ind}

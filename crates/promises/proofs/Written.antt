@@ -1,14 +1,14 @@
 -- "An accepted call writes its bytes at the start of the lent room and nothing beyond; a command, and the opening of a reply, writes the payload.":
 -- the room after the call is the call's bytes, then what stood there; and how long those bytes are. A theorem for each call that lends a room.
 use mathlib.Core.Path.{◌≡◌, refl}
-use mathlib.Core.Bool.{Bool, true, false, not}
+use mathlib.Core.Bool.{not}
 use mathlib.Core.List.{List, [], ◌∷◌, ◌++◌}
 use Prim.Native.Nat.{ℕ, ◌+◌, ◌-◌, ◌≤◌}
 use native.Mathlib.Omega.{arith}
 use borrow.Author.Tests.{ltb-false}
 use lib.Dec.{eqb}
 use lib.ListN.{length, drop, length-append, length-drop}
-use Rattle.octets.specs.Checks.{pick, is_zero, ◌when◌}
+use Rattle.octets.specs.Checks.{is_zero, ◌when◌}
 use Rattle.octets.specs.Little.{octets}
 use Rattle.octets.specs.Room.{part, at_start}
 use Rattle.octets.proofs.CheckLaws.{passed-of, then-passed}
@@ -33,7 +33,7 @@ use Rattle.command.specs.Heard.{heard, heard_room}
 use Rattle.gateway.specs.Request.{found, asked, request_refusal, requesting, request_room}
 use Rattle.gateway.specs.Proof.{third, proving, proof_room}
 use Rattle.gateway.specs.Command.{command_heard, command_room}
-use Rattle.gateway.specs.Reply as r_128
+use Rattle.gateway.specs.Reply as R
 use Rattle.gateway.specs.Reply.{reply_bytes, replying, reply_room}
 use Rattle.gateway.proofs.RequestLaws.{formed}
 use Rattle.gateway.proofs.ProofLaws.{proof-passed}
@@ -153,11 +153,11 @@ command-writes s p room e =
     (ltb-false (length room) (length p - 96) rows.1.1.1.1.1.1.1.0)
 
 pub reply-writes : ReplyWrites
-unfolding answer replying reply_room reply_bytes r_128.reply_text reply_vector reply_lead octets
+unfolding answer replying reply_room reply_bytes R.reply_text reply_vector reply_lead octets
 reply-writes s h n pay room e =
     let known = replies (seen s h) h n (length pay) (length room) e in
     starts _ (32 + length pay) (reply_sent s h n pay) room e
-    (omega (arith, packet-length (seen s h).held.key [] (reply_vector n) (r_128.reply_text n pay) refl)) known.room
+    (omega (arith, packet-length (seen s h).held.key [] (reply_vector n) (R.reply_text n pay) refl)) known.room
 
 -- ---- the client's
 

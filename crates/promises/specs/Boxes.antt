@@ -1,7 +1,7 @@
 -- Document 01, "What the proofs settle": "Demand 2 shuts out a box that refuses all, accepts all, keeps its state as it was, chains the first word and
 -- waves the other three through, or invents its block count." A box is what it answers to a call in a state, and the state after the call. What is
 -- said of a box here is said of commands alone, so that no other call helps to tell it from ours.
-use Rattle.std.specs.Prelude.{◌≡◌, ◌≢◌, List, [], ◌∷◌, ℕ, ◌+◌, ◌≤◌, ◌<◌, length, get_or}
+use Rattle.std.specs.Prelude.{◌≡◌, ◌≢◌, List, [], ◌∷◌, ℕ, ◌<◌, length, get_or}
 use Rattle.capability.specs.Chain.{all_ones}
 use Rattle.state.specs.declared.State.{State}
 use Rattle.promises.specs.Places.{command_said, words_said}

@@ -8,7 +8,6 @@ use Rattle.capability.specs.Calls.{issued, narrowing}
 use Rattle.capability.specs.Chain.{all_ones}
 use Rattle.state.specs.declared.State.{State}
 use Rattle.client.specs.Seal.{command_bytes}
-use Rattle.client.specs.declared.seal.Ask.{Ask}
 use Rattle.promises.specs.Ready.{Parts}
 use Rattle.promises.specs.Series.{after}
 use Rattle.promises.specs.Step.{Call, request, proof, command, reply, close, revoke, answer}

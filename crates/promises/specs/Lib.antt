@@ -24,3 +24,5 @@ pub mod Told
 pub mod Alike
 pub mod Books
 pub mod Dairies
+pub mod PlacedRules
+pub mod BookFacts

@@ -3,6 +3,9 @@
 // The whole state is some 13 KB: no call but a load hands it over whole; every other takes the parts that it reads and hands back
 // the part that changed. Hosts, interfaces and entries are counted from 0 here. Every public function takes all inputs, a state that
 // nobody loaded too.
+
+#![tactic(auto)]
+
 mod flat;
 mod soundness;
 mod transitions;
@@ -14,7 +17,7 @@ pub use transitions::{Phase, Record};
 // What the book says of hosts and interfaces, but their names. Entry j of interface i stands at 16 i + j, and the master secret
 // of interface i at 16 i.
 #[repr(C)]
-#[derive(Drop)]
+#[derive(Clone, Copy)]
 pub struct Rights {
     pub words: [u64; 128],
     pub hosts: u16,
@@ -34,7 +37,7 @@ pub struct Rights {
 // The records of all hosts. A record's phase is a tag (1 waiting, 2 open, 3 open with a reply owed, any other idle) and the last
 // accepted number; its challenge and its key stand at 16 i.
 #[repr(C)]
-#[derive(Drop)]
+#[derive(Clone, Copy)]
 pub struct Records {
     pub tags: [u8; 32],
     pub lasts: [u16; 32],
@@ -44,7 +47,7 @@ pub struct Records {
 
 // The name of host i stands at 256 i of `names`, and that of interface i at 256 i of `labels`.
 #[repr(C)]
-#[derive(Drop)]
+#[derive(Clone, Copy)]
 pub struct State {
     pub rights: Rights,
     pub records: Records,

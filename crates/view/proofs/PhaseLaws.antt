@@ -1,17 +1,11 @@
 -- Phases: what doesn't hold of an idle and of a waiting record doesn't hold of any that isn't open.
-use mathlib.Core.Path.{◌≡◌}
-use mathlib.Core.Logic.{inl, inr}
+use mathlib.Core.Path.{◌≡◌, refl}
+use Prim.Native.Nat.{ℕ}
 use mathlib.Core.Bool.{Bool, false}
-use mathlib.Core.List.{[], ◌∷◌}
-use native.Mathlib.Omega.{arith}
-use types.Run.{OneOf}
-use denote.Enum.Declared.{tag_of}
 use Rattle.state.specs.declared.transitions.Phase.{Phase}
 use Rattle.state.specs.declared.transitions.Phase.TheVariants.{Idle, Waiting, Open}
-use Rattle.state.specs.contracts.transitions.Phase as P
 
-pub shut : (f : Phase → Bool) → f Idle ≡ false → f Waiting ≡ false → (p : Phase) → OneOf (0 ∷ 1 ∷ []) (tag_of P.the_type p) → f p ≡ false
+pub shut : (f : Phase → Bool) → f Idle ≡ false → f Waiting ≡ false → (p : Phase) → ((n : ℕ) → (o : Bool) → p ≡ Open n o → ⊥) → f p ≡ false
 shut f i w Idle h = i
 shut f i w Waiting h = w
-shut f i w (Open n o) (inl e) = absurd (omega arith)
-shut f i w (Open n o) (inr e) = absurd (omega arith)
+shut f i w (Open n o) h = absurd (h n o refl)

@@ -1,13 +1,16 @@
 // What a call may read of the state (document 01, "Numbers of refusal"): whether the state
 // is sound, its counts, one host's group and record, and of one interface one entry. Every function takes all inputs, a state that
 // nobody loaded too.
+
+#![tactic(auto)]
+
 ghost use Rattle.std.specs.Prelude.{◌≡◌, get_or};
 ghost use Rattle.view.specs.Counted.{no_such, place};
 ghost use Rattle.view.specs.View.{see};
 ghost use Rattle.view.specs.Right.{right_of};
 
 // What a call about a host sees.
-#[derive(Drop)]
+#[derive(Clone, Copy)]
 pub struct View {
     pub good: bool,
     pub hosts: u16,
@@ -17,7 +20,7 @@ pub struct View {
 }
 
 // What a command sees of the interface that it names, and of the entry.
-#[derive(Drop)]
+#[derive(Clone, Copy)]
 pub struct Right {
     pub commands: u16,
     pub entries: u16,

@@ -1,0 +1,13 @@
+-- `round::rounds` meets its contract: after i turns the state is that after i rounds.
+use mathlib.Core.Path.{◌≡◌}
+use Prim.Native.Nat.{◌≤◌, ◌-◌}
+use Rattle.aes.specs.Cipher.{rounds}
+use Rattle.aes.specs.Prepared.{key_at}
+use Rattle.aes.specs.Words.{bytes}
+use Rattle.aes.proofs.round.rounds.Given as goal
+
+abbrev pub invariant-loop-i : goal.invariant-loop-i
+invariant-loop-i l = (bytes l.s ≡ rounds (key_at l.p) l.i (bytes l.initial.s)) × (l.i ≤ 9)
+
+abbrev pub decreases-loop-i : goal.decreases-loop-i
+decreases-loop-i l = 9 - l.i

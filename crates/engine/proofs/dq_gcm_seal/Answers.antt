@@ -1,0 +1,40 @@
+-- `engine::dq_gcm_seal` meets its contract: whether `seal` sealed is whether the room holds the text.
+use borrow.Author.Rules.{rules}
+use mathlib.Core.Path.{◌≡◌, refl, ap}
+use mathlib.Core.Bool.{Bool, true, false}
+use mathlib.Core.List.{List}
+use Prim.Native.Nat.{ℕ}
+use Rattle.gcm.specs.Gcm.{Sealed}
+use Rattle.gcm.specs.Answers.{sealing, seal_number}
+use Rattle.gcm.specs.declared.Sealing.{Sealing}
+use Rattle.engine.specs.Numbers.{seal_tag}
+use Rattle.engine.proofs.dq_gcm_seal.Goals as goal
+
+counted : (fit : Bool) (s : Sealed) (r : Sealing) → r ≡ sealing fit s → r.blocks ≡ (sealing fit s).blocks
+counted fit s r e = ap (λ (x : Sealing). x.blocks) e
+
+number-done : (fit : Bool) (s : Sealed) (r : Sealing) → r ≡ sealing fit s → r.sealed ≡ true → 0 ≡ seal_number fit
+unfolding sealing seal_number
+number-done true s r e h = refl
+number-done false s r e h = cc
+
+number-refused : (fit : Bool) (s : Sealed) (r : Sealing) → r ≡ sealing fit s → r.sealed ≡ false → 7 ≡ seal_number fit
+unfolding sealing seal_number
+number-refused true s r e h = cc
+number-refused false s r e h = refl
+
+tag-done : (fit : Bool) (s : Sealed) (r : Sealing) (tag : List ℕ) → r ≡ sealing fit s → r.sealed ≡ true → r.tag ≡ seal_tag fit s tag
+unfolding sealing seal_tag
+tag-done true s r tag e h = ap (λ (x : Sealing). x.tag) e
+tag-done false s r tag e h = cc
+
+tag-refused : (fit : Bool) (s : Sealed) (r : Sealing) (tag : List ℕ) → r ≡ sealing fit s → r.sealed ≡ false → tag ≡ seal_tag fit s tag
+unfolding sealing seal_tag
+tag-refused true s r tag e h = cc
+tag-refused false s r tag e h = refl
+
+pub returns-then-s : goal.returns-then-s
+returns-then-s c = search (rules, counted, number-done, tag-done)
+
+pub returns-else-s : goal.returns-else-s
+returns-else-s c = search (rules, counted, number-refused, tag-refused)

@@ -1,0 +1,12 @@
+-- `octets::put` meets its contract. The invariant: the first i bytes of x are over the room from `at` on.
+use mathlib.Core.Path.{◌≡◌}
+use Prim.Native.Nat.{◌-◌, ◌≤◌}
+use lib.ListN.{length}
+use lib.Seq.{paste}
+use Rattle.octets.proofs.put.Given as goal
+
+abbrev pub invariant-loop-i : goal.invariant-loop-i
+invariant-loop-i l = (l.i ≤ length l.x) × (length l.room ≡ length l.initial.room) × (l.room ≡ paste l.initial.room l.at l.x l.i)
+
+abbrev pub decreases-loop-i : goal.decreases-loop-i
+decreases-loop-i l = length l.x - l.i
