@@ -1,30 +1,37 @@
 // Load, and the two steps of the handshake.
 use crate::{input, output};
+use std::io;
+use std::io::Read;
 
-pub(crate) fn handshake(op: u8, s: state::State) -> state::State {
+pub(crate) fn handshake(
+    from: &mut impl Read,
+    to: &impl Print,
+    op: u8,
+    s: state::State,
+) -> io::Result<state::State> {
     if op == 1 {
-        return load();
+        return load(from, to);
     }
     if op == 2 {
-        return request(s);
+        return request(from, to, s);
     }
-    proof(s)
+    proof(from, to, s)
 }
 
-fn load() -> state::State {
+fn load(from: &mut impl Read, to: &impl Print) -> io::Result<state::State> {
     let mut book = [0u8; input::MOST];
-    let n = input::string(&mut book);
+    let n = input::string(from, &mut book);
     let r = book::load(octets::part(&book, 0, n));
     let s = r.state;
     let rights = s.rights;
-    output::text(b"load");
-    output::field(r.number as u64);
-    output::field(r.blocks as u64);
-    output::field(r.offset as u64);
-    output::field(rights.hosts as u64);
-    output::field(rights.interfaces as u64);
-    output::text(b"\n");
-    s
+    output::text(to, b"load")?;
+    output::field(to, r.number as u64)?;
+    output::field(to, r.blocks as u64)?;
+    output::field(to, r.offset as u64)?;
+    output::field(to, rights.hosts as u64)?;
+    output::field(to, rights.interfaces as u64)?;
+    output::text(to, b"\n")?;
+    Ok(s)
 }
 
 // The state with other records.
@@ -34,14 +41,15 @@ pub(crate) fn with_records(s: state::State, records: state::Records) -> state::S
     t
 }
 
-fn request(s: state::State) -> state::State {
+fn request(from: &mut impl Read, to: &impl Print, s: state::State) -> io::Result<state::State> {
     let mut packet = [0u8; input::MOST];
-    let n = input::string(&mut packet);
+    let n = input::string(from, &mut packet);
     let mut fresh = [0u8; 64];
-    let m = input::string(&mut fresh);
+    let m = input::string(from, &mut fresh);
     let mut room = [0xa5u8; input::MOST];
-    let size = input::size(&room);
+    let size = input::size(from, &room);
     requested(
+        to,
         s,
         octets::part(&packet, 0, n),
         octets::part(&fresh, 0, m),
@@ -50,32 +58,44 @@ fn request(s: state::State) -> state::State {
 }
 
 // The line of a request.
-fn line(said: capability::Answer, host: u16, room: &[u8]) {
-    output::text(b"request");
-    output::field(said.number as u64);
-    output::field(said.blocks as u64);
-    output::field(host as u64);
-    output::room(room, output::if_accepted(said.number, 32));
+fn line(to: &impl Print, said: capability::Answer, host: u16, room: &[u8]) -> io::Result<()> {
+    output::text(to, b"request")?;
+    output::field(to, said.number as u64)?;
+    output::field(to, said.blocks as u64)?;
+    output::field(to, host as u64)?;
+    output::room(to, room, output::if_accepted(said.number, 32))
 }
 
-fn requested(s: state::State, packet: &[u8], fresh: &[u8], room: &mut [u8]) -> state::State {
+fn requested(
+    to: &impl Print,
+    s: state::State,
+    packet: &[u8],
+    fresh: &[u8],
+    room: &mut [u8],
+) -> io::Result<state::State> {
     let names = s.names;
     let r = gateway::request(s.rights, s.records, &names, packet, fresh, room);
-    line(r.answer, r.host, room);
-    with_records(s, r.records)
+    line(to, r.answer, r.host, room)?;
+    Ok(with_records(s, r.records))
 }
 
-fn proof(s: state::State) -> state::State {
-    let host = input::half();
+fn proof(from: &mut impl Read, to: &impl Print, s: state::State) -> io::Result<state::State> {
+    let host = input::half(from);
     let mut packet = [0u8; input::MOST];
-    let n = input::string(&mut packet);
+    let n = input::string(from, &mut packet);
     let mut room = [0xa5u8; input::MOST];
-    let size = input::size(&room);
-    proved(s, host, octets::part(&packet, 0, n), &mut room[..size])
+    let size = input::size(from, &room);
+    proved(to, s, host, octets::part(&packet, 0, n), &mut room[..size])
 }
 
-fn proved(s: state::State, host: u16, packet: &[u8], room: &mut [u8]) -> state::State {
+fn proved(
+    to: &impl Print,
+    s: state::State,
+    host: u16,
+    packet: &[u8],
+    room: &mut [u8],
+) -> io::Result<state::State> {
     let r = gateway::proof(s.rights, s.records, host, packet, room);
-    output::answer(b"proof", r.answer, room, 20);
-    with_records(s, r.records)
+    output::answer(to, b"proof", r.answer, room, 20)?;
+    Ok(with_records(s, r.records))
 }

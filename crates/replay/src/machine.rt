@@ -1,57 +1,56 @@
 // The client's calls.
 use crate::{input, output};
+use std::io;
+use std::io::Read;
 
-pub(crate) fn client(op: u8) {
+pub(crate) fn client(from: &mut impl Read, to: &impl Print, op: u8) -> io::Result<()> {
     if op == 8 {
-        issue();
-        return;
+        return issue(from, to);
     }
     if op == 9 {
-        narrow();
-        return;
+        return narrow(from, to);
     }
     if op == 10 {
-        seal();
-        return;
+        return seal(from, to);
     }
-    open();
+    open(from, to)
 }
 
-fn issue() {
+fn issue(from: &mut impl Read, to: &impl Print) -> io::Result<()> {
     let mut master = [0u8; 64];
-    let n = input::string(&mut master);
-    let id = input::half();
+    let n = input::string(from, &mut master);
+    let id = input::half(from);
     let mut room = [0xa5u8; input::MOST];
-    let size = input::size(&room);
-    issued(octets::part(&master, 0, n), id, &mut room[..size]);
+    let size = input::size(from, &room);
+    issued(to, octets::part(&master, 0, n), id, &mut room[..size])
 }
 
-fn issued(master: &[u8], id: u16, room: &mut [u8]) {
+fn issued(to: &impl Print, master: &[u8], id: u16, room: &mut [u8]) -> io::Result<()> {
     let said = capability::issue(master, id, room);
-    output::answer(b"issue", said, room, 50);
+    output::answer(to, b"issue", said, room, 50)
 }
 
-fn narrow() {
+fn narrow(from: &mut impl Read, to: &impl Print) -> io::Result<()> {
     let mut held = [0u8; 64];
-    let n = input::string(&mut held);
-    let word = input::word();
+    let n = input::string(from, &mut held);
+    let word = input::word(from);
     let mut room = [0xa5u8; input::MOST];
-    let size = input::size(&room);
-    narrowed(octets::part(&held, 0, n), word, &mut room[..size]);
+    let size = input::size(from, &room);
+    narrowed(to, octets::part(&held, 0, n), word, &mut room[..size])
 }
 
-fn narrowed(held: &[u8], word: u64, room: &mut [u8]) {
+fn narrowed(to: &impl Print, held: &[u8], word: u64, room: &mut [u8]) -> io::Result<()> {
     let said = capability::narrow(held, word, room);
-    output::answer(b"narrow", said, room, 50);
+    output::answer(to, b"narrow", said, room, 50)
 }
 
 // What a command asks for, read in the trace's order.
-fn ask() -> client::Ask {
-    let client = input::half();
-    let sequence = input::half();
-    let group = input::half();
-    let interface = input::half();
-    let command = input::byte();
+fn ask(from: &mut impl Read) -> client::Ask {
+    let client = input::half(from);
+    let sequence = input::half(from);
+    let group = input::half(from);
+    let interface = input::half(from);
+    let command = input::byte(from);
     client::Ask {
         client: client,
         sequence: sequence,
@@ -61,71 +60,89 @@ fn ask() -> client::Ask {
     }
 }
 
-fn seal() {
+fn seal(from: &mut impl Read, to: &impl Print) -> io::Result<()> {
     let mut key = [0u8; 64];
-    let k = input::string(&mut key);
+    let k = input::string(from, &mut key);
     let mut vector = [0u8; 64];
-    let v = input::string(&mut vector);
+    let v = input::string(from, &mut vector);
     let mut held = [0u8; 64];
-    let h = input::string(&mut held);
-    let asked = ask();
+    let h = input::string(from, &mut held);
+    let asked = ask(from);
     carry(
+        from,
+        to,
         octets::part(&key, 0, k),
         octets::part(&vector, 0, v),
         octets::part(&held, 0, h),
         asked,
-    );
+    )
 }
 
 // The rest of a sealing: its payload and its room.
-fn carry(key: &[u8], vector: &[u8], held: &[u8], asked: client::Ask) {
+fn carry(
+    from: &mut impl Read,
+    to: &impl Print,
+    key: &[u8],
+    vector: &[u8],
+    held: &[u8],
+    asked: client::Ask,
+) -> io::Result<()> {
     let mut payload = [0u8; input::MOST];
-    let n = input::string(&mut payload);
+    let n = input::string(from, &mut payload);
     let mut room = [0xa5u8; input::MOST];
-    let size = input::size(&room);
+    let size = input::size(from, &room);
     sealed(
+        to,
         key,
         vector,
         held,
         asked,
         octets::part(&payload, 0, n),
         &mut room[..size],
-    );
+    )
 }
 
 fn sealed(
+    to: &impl Print,
     key: &[u8],
     vector: &[u8],
     held: &[u8],
     asked: client::Ask,
     payload: &[u8],
     room: &mut [u8],
-) {
+) -> io::Result<()> {
     let said = client::seal_command(key, vector, held, asked, payload, room);
-    output::answer(b"seal", said, room, payload.len() % 65536 + 96);
+    output::answer(to, b"seal", said, room, payload.len() % 65536 + 96)
 }
 
-fn open() {
+fn open(from: &mut impl Read, to: &impl Print) -> io::Result<()> {
     let mut key = [0u8; 64];
-    let k = input::string(&mut key);
-    let expected = input::half();
+    let k = input::string(from, &mut key);
+    let expected = input::half(from);
     let mut packet = [0u8; input::MOST];
-    let n = input::string(&mut packet);
+    let n = input::string(from, &mut packet);
     let mut room = [0xa5u8; input::MOST];
-    let size = input::size(&room);
+    let size = input::size(from, &room);
     opened(
+        to,
         octets::part(&key, 0, k),
         expected,
         octets::part(&packet, 0, n),
         &mut room[..size],
-    );
+    )
 }
 
-fn opened(key: &[u8], expected: u16, packet: &[u8], room: &mut [u8]) {
+fn opened(
+    to: &impl Print,
+    key: &[u8],
+    expected: u16,
+    packet: &[u8],
+    room: &mut [u8],
+) -> io::Result<()> {
     let r = client::open_reply(key, expected, packet, room);
-    output::text(b"open");
-    output::field(r.number as u64);
-    output::field(r.blocks as u64);
-    output::field(r.length as u64);
-    output::room(room, r.length);
+    output::text(to, b"open")?;
+    output::field(to, r.number as u64)?;
+    output::field(to, r.blocks as u64)?;
+    output::field(to, r.length as u64)?;
+    output::room(to, room, r.length)
 }

@@ -1,19 +1,20 @@
-// Parts of lines, written to standard output.
+// Parts of lines, written to the output.
 use crate::input;
-use libc::STDOUT_FILENO;
+use std::io;
+use std::io::Read;
 
-pub(crate) fn text(s: &[u8]) {
-    io::write_all(STDOUT_FILENO, s);
+pub(crate) fn text(to: &impl Print, s: &[u8]) -> io::Result<()> {
+    to.write_all(s)
 }
 
-pub(crate) fn number(n: u64) {
-    io::print_decimal(STDOUT_FILENO, n);
+pub(crate) fn number(to: &impl Print, n: u64) -> io::Result<()> {
+    to.print(n)
 }
 
 // A space and a number.
-pub(crate) fn field(n: u64) {
-    text(b" ");
-    number(n);
+pub(crate) fn field(to: &impl Print, n: u64) -> io::Result<()> {
+    text(to, b" ")?;
+    number(to, n)
 }
 
 // The digit of a number below 16.
@@ -22,13 +23,14 @@ fn digit(n: u8) -> u8 {
 }
 
 // Bytes, two digits each.
-pub(crate) fn hex(bytes: &[u8]) {
+pub(crate) fn hex(to: &impl Print, bytes: &[u8]) -> io::Result<()> {
     let mut i: usize = 0;
     while i < bytes.len() {
         let b = bytes[i];
-        text(&[digit(b / 16), digit(b % 16)]);
+        text(to, &[digit(b / 16), digit(b % 16)])?;
         i += 1;
     }
+    Ok(())
 }
 
 // One byte more in a sum: exclusive-or it in, then multiply modulo 2^32.
@@ -49,27 +51,27 @@ fn sum(bytes: &[u8]) -> u32 {
     h
 }
 
-fn eight_digits(n: u32) {
+fn eight_digits(to: &impl Print, n: u32) -> io::Result<()> {
     let b = [
         (n / 16777216 % 256) as u8,
         (n / 65536 % 256) as u8,
         (n / 256 % 256) as u8,
         (n % 256) as u8,
     ];
-    hex(&b);
+    hex(to, &b)
 }
 
 // What was written, `-` where that is no byte, and the sum of the whole room; then the line ends.
-pub(crate) fn room(bytes: &[u8], written: usize) {
-    text(b" ");
+pub(crate) fn room(to: &impl Print, bytes: &[u8], written: usize) -> io::Result<()> {
+    text(to, b" ")?;
     if written == 0 {
-        text(b"-");
+        text(to, b"-")?;
     } else {
-        hex(octets::part(bytes, 0, written));
+        hex(to, octets::part(bytes, 0, written))?;
     }
-    text(b" ");
-    eight_digits(sum(bytes));
-    text(b"\n");
+    text(to, b" ")?;
+    eight_digits(to, sum(bytes))?;
+    text(to, b"\n")
 }
 
 // How many bytes an accepted call wrote; none on a refusal.
@@ -78,18 +80,24 @@ pub(crate) fn if_accepted(number: u8, n: usize) -> usize {
 }
 
 // The line of a call that answers number and blocks alone and writes n bytes.
-pub(crate) fn answer(name: &[u8], said: capability::Answer, bytes: &[u8], n: usize) {
-    text(name);
-    field(said.number as u64);
-    field(said.blocks as u64);
-    room(bytes, if_accepted(said.number, n));
+pub(crate) fn answer(
+    to: &impl Print,
+    name: &[u8],
+    said: capability::Answer,
+    bytes: &[u8],
+    n: usize,
+) -> io::Result<()> {
+    text(to, name)?;
+    field(to, said.number as u64)?;
+    field(to, said.blocks as u64)?;
+    room(to, bytes, if_accepted(said.number, n))
 }
 
 // A note's text, as a line.
-pub(crate) fn note() {
+pub(crate) fn note(from: &mut impl Read, to: &impl Print) -> io::Result<()> {
     let mut buffer = [0u8; input::MOST];
-    let n = input::string(&mut buffer);
-    text(b"# ");
-    text(octets::part(&buffer, 0, n));
-    text(b"\n");
+    let n = input::string(from, &mut buffer);
+    text(to, b"# ")?;
+    text(to, octets::part(&buffer, 0, n))?;
+    text(to, b"\n")
 }

@@ -1,5 +1,6 @@
 // Stores into the selected state without any check: this makes the states that nobody loaded. Places past the arrays are let be.
 use crate::input;
+use std::io::Read;
 
 fn set16(values: &mut [u16], i: usize, x: u16) {
     if i < values.len() {
@@ -69,11 +70,11 @@ fn rename(s: state::State, i: usize, k: usize) -> state::State {
     t
 }
 
-pub(crate) fn poke(s: state::State) -> state::State {
-    let what = input::byte();
-    let i = place(input::half());
-    let k = place(input::half());
-    let value = input::word();
+pub(crate) fn poke(from: &mut impl Read, s: state::State) -> state::State {
+    let what = input::byte(from);
+    let i = place(input::half(from));
+    let k = place(input::half(from));
+    let value = input::word(from);
     if what == 8 {
         return rename(s, i, k);
     }

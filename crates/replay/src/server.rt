@@ -1,78 +1,91 @@
 // Calls on a connection, and revocation.
 use crate::{input, keeper, output};
+use std::io;
+use std::io::Read;
 
-pub(crate) fn connection(op: u8, s: state::State) -> state::State {
+pub(crate) fn connection(
+    from: &mut impl Read,
+    to: &impl Print,
+    op: u8,
+    s: state::State,
+) -> io::Result<state::State> {
     if op == 4 {
-        return command(s);
+        return command(from, to, s);
     }
     if op == 5 {
-        return reply(s);
+        return reply(from, to, s);
     }
     if op == 6 {
-        return close(s);
+        return close(from, to, s);
     }
-    revoke(s)
+    revoke(from, to, s)
 }
 
 // A command's inner fields, but words and secret.
-fn fields(o: fields::Order) {
-    output::field(o.client as u64);
-    output::field(o.sequence as u64);
-    output::field(o.group as u64);
-    output::field(o.interface as u64);
-    output::field(o.capability as u64);
-    output::field(o.length as u64);
-    output::field(o.command as u64);
+fn fields(to: &impl Print, o: fields::Order) -> io::Result<()> {
+    output::field(to, o.client as u64)?;
+    output::field(to, o.sequence as u64)?;
+    output::field(to, o.group as u64)?;
+    output::field(to, o.interface as u64)?;
+    output::field(to, o.capability as u64)?;
+    output::field(to, o.length as u64)?;
+    output::field(to, o.command as u64)
 }
 
-fn words(words: [u64; 4]) {
-    output::field(words[0]);
-    output::field(words[1]);
-    output::field(words[2]);
-    output::field(words[3]);
+fn words(to: &impl Print, words: [u64; 4]) -> io::Result<()> {
+    output::field(to, words[0])?;
+    output::field(to, words[1])?;
+    output::field(to, words[2])?;
+    output::field(to, words[3])
 }
 
-fn secret(bytes: [u8; 16]) {
-    output::text(b" ");
-    output::hex(&bytes);
+fn secret(to: &impl Print, bytes: [u8; 16]) -> io::Result<()> {
+    output::text(to, b" ")?;
+    output::hex(to, &bytes)
 }
 
-fn command(s: state::State) -> state::State {
+fn command(from: &mut impl Read, to: &impl Print, s: state::State) -> io::Result<state::State> {
     let mut packet = [0u8; input::MOST];
-    let n = input::string(&mut packet);
+    let n = input::string(from, &mut packet);
     let mut room = [0xa5u8; input::MOST];
-    let size = input::size(&room);
-    commanded(s, octets::part(&packet, 0, n), &mut room[..size])
+    let size = input::size(from, &room);
+    commanded(to, s, octets::part(&packet, 0, n), &mut room[..size])
 }
 
 // The line of a command.
-fn line(heard: command::Heard, room: &[u8]) {
+fn line(to: &impl Print, heard: command::Heard, room: &[u8]) -> io::Result<()> {
     let o = heard.order;
-    output::text(b"command");
-    output::field(heard.number as u64);
-    output::field(heard.blocks as u64);
-    fields(o);
+    output::text(to, b"command")?;
+    output::field(to, heard.number as u64)?;
+    output::field(to, heard.blocks as u64)?;
+    fields(to, o)?;
     let four = o.words;
-    words(four);
+    words(to, four)?;
     let bytes = o.secret;
-    secret(bytes);
-    output::room(room, o.length as usize);
+    secret(to, bytes)?;
+    output::room(to, room, o.length as usize)
 }
 
-fn commanded(s: state::State, packet: &[u8], room: &mut [u8]) -> state::State {
+fn commanded(
+    to: &impl Print,
+    s: state::State,
+    packet: &[u8],
+    room: &mut [u8],
+) -> io::Result<state::State> {
     let r = gateway::command(s.rights, s.records, packet, room);
-    line(r.heard, room);
-    keeper::with_records(s, r.records)
+    line(to, r.heard, room)?;
+    Ok(keeper::with_records(s, r.records))
 }
 
-fn reply(s: state::State) -> state::State {
-    let host = input::half();
-    let sequence = input::half();
+fn reply(from: &mut impl Read, to: &impl Print, s: state::State) -> io::Result<state::State> {
+    let host = input::half(from);
+    let sequence = input::half(from);
     let mut payload = [0u8; input::MOST];
-    let n = input::string(&mut payload);
+    let n = input::string(from, &mut payload);
     let mut room = [0xa5u8; input::MOST];
-    let size = input::size(&room);
+    let size = input::size(from, &room);
     replied(
+        to,
         s,
         host,
         sequence,
@@ -82,30 +95,31 @@ fn reply(s: state::State) -> state::State {
 }
 
 fn replied(
+    to: &impl Print,
     s: state::State,
     host: u16,
     sequence: u16,
     payload: &[u8],
     room: &mut [u8],
-) -> state::State {
+) -> io::Result<state::State> {
     let r = gateway::reply(s.rights, s.records, host, sequence, payload, room);
-    output::answer(b"reply", r.answer, room, payload.len() % 65536 + 32);
-    keeper::with_records(s, r.records)
+    output::answer(to, b"reply", r.answer, room, payload.len() % 65536 + 32)?;
+    Ok(keeper::with_records(s, r.records))
 }
 
 // A line of number and blocks.
-fn short(name: &[u8], said: capability::Answer) {
-    output::text(name);
-    output::field(said.number as u64);
-    output::field(said.blocks as u64);
-    output::text(b"\n");
+fn short(to: &impl Print, name: &[u8], said: capability::Answer) -> io::Result<()> {
+    output::text(to, name)?;
+    output::field(to, said.number as u64)?;
+    output::field(to, said.blocks as u64)?;
+    output::text(to, b"\n")
 }
 
-fn close(s: state::State) -> state::State {
-    let host = input::half();
+fn close(from: &mut impl Read, to: &impl Print, s: state::State) -> io::Result<state::State> {
+    let host = input::half(from);
     let r = gateway::close(s.rights, s.records, host);
-    short(b"close", r.answer);
-    keeper::with_records(s, r.records)
+    short(to, b"close", r.answer)?;
+    Ok(keeper::with_records(s, r.records))
 }
 
 // The state with other rights.
@@ -115,11 +129,11 @@ fn with_rights(s: state::State, rights: state::Rights) -> state::State {
     t
 }
 
-fn revoke(s: state::State) -> state::State {
-    let interface = input::half();
-    let entry = input::half();
-    let word = input::word();
+fn revoke(from: &mut impl Read, to: &impl Print, s: state::State) -> io::Result<state::State> {
+    let interface = input::half(from);
+    let entry = input::half(from);
+    let word = input::word(from);
     let r = gateway::revoke(s.rights, interface, entry, word);
-    short(b"revoke", r.answer);
-    with_rights(s, r.rights)
+    short(to, b"revoke", r.answer)?;
+    Ok(with_rights(s, r.rights))
 }

@@ -1,4 +1,5 @@
 // Hexadecimal digits, read and printed.
+use std::io;
 
 // The number that a digit stands for.
 fn value(digit: u8) -> u8 {
@@ -52,36 +53,35 @@ fn digit(n: u8) -> u8 {
 }
 
 // Prints bytes, two digits each.
-fn print(bytes: &[u8]) {
+fn print(to: &impl Print, bytes: &[u8]) -> io::Result<()> {
     let mut i: usize = 0;
     while i < bytes.len() {
         let b = bytes[i];
-        io::write_all(1, &[digit(b / 16), digit(b % 16)]);
+        to.write_all(&[digit(b / 16), digit(b % 16)])?;
         i += 1;
     }
+    Ok(())
 }
 
 // A line with a label and bytes. Where there are none it ends at the sign.
-pub(crate) fn line(label: &[u8], bytes: &[u8]) {
-    io::write_all(1, label);
-    io::write_all(1, b" =");
+pub(crate) fn line(to: &impl Print, label: &[u8], bytes: &[u8]) -> io::Result<()> {
+    to.write_all(label)?;
+    to.write_all(b" =")?;
     if bytes.len() > 0 {
-        io::write_all(1, b" ");
-        print(bytes);
+        to.write_all(b" ")?;
+        print(to, bytes)?;
     }
-    io::write_all(1, b"\n");
+    to.write_all(b"\n")
 }
 
 // A line with a label and a number.
-pub(crate) fn number(label: &[u8], n: usize) {
-    io::write_all(1, label);
-    io::write_all(1, b" = ");
-    io::print_decimal(1, n as u64);
-    io::write_all(1, b"\n");
+pub(crate) fn number(to: &impl Print, label: &[u8], n: usize) -> io::Result<()> {
+    to.write_all(label)?;
+    println!(to; " = {n}")
 }
 
 // A line with a word.
-pub(crate) fn word(w: &[u8]) {
-    io::write_all(1, w);
-    io::write_all(1, b"\n");
+pub(crate) fn word(to: &impl Print, w: &[u8]) -> io::Result<()> {
+    to.write_all(w)?;
+    to.write_all(b"\n")
 }
