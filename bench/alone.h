@@ -1,5 +1,5 @@
 /*
- * alone.h: what the AES and the GHASH of an empty accepted command cost alone, by the archive of the crate `engine`: the same AES and GHASH, and
+ * alone.h: what the AES and the GHASH of an empty accepted command cost alone, by the archive of the crate `engine_c`: the same AES and GHASH, and
  * nothing of the gateway.
  */
 #ifndef ALONE_H

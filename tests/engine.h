@@ -1,5 +1,5 @@
 /*
- * engine.h: what the archive of the crate `engine` offers to C.
+ * engine.h: what the archive of the crate `engine_c` offers to C.
  *
  * A slice is a pointer and then its length; no pointer may be null, not even beside a length of 0.
  * A room is where a text is to be written. It may not overlap what is read.

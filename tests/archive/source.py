@@ -16,7 +16,7 @@ RENAMED = {"interface": "interface_id"}
 
 
 def fields_of(text, name):
-    found = re.search(r"#\[repr\(C\)\]\s*pub struct " + name + r" \{(.*?)\n\}", text, re.S)
+    found = re.search(r"#\[repr\(C\)\]\s*(?:#\[derive\([\w, ]*\)\]\s*)?pub struct " + name + r" \{(.*?)\n\}", text, re.S)
     if not found:
         sys.exit(f"source.py: there is no #[repr(C)] struct {name}")
     return re.findall(r"^\s*pub (\w+): ([^,]+),", found[1], re.M)
