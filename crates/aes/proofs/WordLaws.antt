@@ -4,9 +4,10 @@ use mathlib.Core.Path.{◌≡◌, ap, ap₂, sym, ◌∙◌}
 use mathlib.Core.List.{List, [], ◌∷◌}
 use Prim.Native.Nat.{ℕ, ◌+◌, ◌*◌, ◌/◌, ◌%◌, ◌<◌, ◌^◌}
 use native.Mathlib.Omega.{arith}
-use lib.Bits.{bit_and, bit_xor, xor_shr, xor_mod, and_shr, and_mod, and_mask, and_high, and_le_r, xor_zero_r}
+use lib.Bits.{bit_and, bit_or, bit_xor, or_shifted_r, xor_shr, xor_mod, and_shr, and_mod, and_mask, and_high, and_le_r, xor_zero_r, xor_assoc, xor_comm}
 use lib.ListN.{get_or}
 use lib.Pow.{shr-shr, split, low as lowest}
+use Rattle.std.specs.Int.{w32, rotate_right, from_le_bytes}
 use Rattle.aes.specs.Field.{xtimes, ◌•◌, product}
 use Rattle.aes.specs.KeyExpansion.{rot_word}
 use Rattle.aes.specs.Cipher.{mixed}
@@ -56,13 +57,31 @@ rest_of w h =
 of-bytes : (w : ℕ) → w < 4294967296 → w ≡ b0 w + b1 w * 256 + b2 w * 65536 + b3 w * 16777216
 of-bytes w h = omega (arith, rest_of w h)
 
+-- a word that is read from four bytes
+pub read : (n a b c d : ℕ) → n ≡ from_le_bytes w32 (a ∷ b ∷ c ∷ d ∷ []) → a < 256 → b < 256 → c < 256 → d < 256 → bytes_of n ≡ a ∷ b ∷ c ∷ d ∷ []
+read n a b c d e ha hb hc hd = packed n a b c d (omega (arith, e)) ha hb hc hd
+
 byte : (n : ℕ) → n % 256 < 256
 byte n = omega arith
 
-pub rotated : (w : ℕ) → w < 4294967296 → bytes_of (w / 256 + w % 256 * 16777216) ≡ rot_word (bytes_of w)
-rotated w h =
-    packed _ (b1 w) (b2 w) (b3 w) (b0 w) (ap (λ (n : ℕ). n + w % 256 * 16777216) (rest_of w h)) (byte (w / 256)) (byte (w / 65536))
+-- a word turned by one byte and by two: its low bytes go above the others
+joined : (x y k a b c d : ℕ) → x < 2 ^ k → y * 2 ^ k + x ≡ a + b * 256 + c * 65536 + d * 16777216 → a < 256 → b < 256 → c < 256 → d < 256
+    → bytes_of (bit_or x (y * 2 ^ k)) ≡ a ∷ b ∷ c ∷ d ∷ []
+joined x y k a b c d h e ha hb hc hd = ap bytes_of (or_shifted_r y k x h) ∙ packed _ a b c d e ha hb hc hd
+
+pub turned : (n w : ℕ) → w < 4294967296 → n ≡ rotate_right w32 w 8 → bytes_of n ≡ rot_word (bytes_of w)
+turned n w h e =
+    let low-byte : w * 16777216 % 4294967296 ≡ w % 256 * 16777216 = omega arith in
+    ap bytes_of (e ∙ ap (bit_or (w / 256)) low-byte)
+    ∙ joined (w / 256) (w % 256) 24 (b1 w) (b2 w) (b3 w) (b0 w) (omega arith) (omega (arith, rest_of w h)) (byte (w / 256)) (byte (w / 65536))
     (byte (w / 16777216)) (byte w)
+
+pub turned-twice : (n w : ℕ) → w < 4294967296 → n ≡ rotate_right w32 w 16 → bytes_of n ≡ rot_word (rot_word (bytes_of w))
+turned-twice n w h e =
+    let low-bytes : w * 65536 % 4294967296 ≡ w % 65536 * 65536 = omega arith in
+    ap bytes_of (e ∙ ap (bit_or (w / 65536)) low-bytes)
+    ∙ joined (w / 65536) (w % 65536) 16 (b2 w) (b3 w) (b0 w) (b1 w) (omega arith) (omega (arith, rest_of w h)) (byte (w / 65536))
+    (byte (w / 16777216)) (byte w) (byte (w / 256))
 
 -- a word of one byte
 pub small : (n : ℕ) → n < 256 → bytes_of n ≡ n ∷ 0 ∷ 0 ∷ 0 ∷ []
@@ -121,6 +140,12 @@ times-x-bytes w =
     xor_bytes (bit_and w 0x7f7f7f7f * 2) (bit_and w 0x80808080 / 128 * 0x1b)
     ∙ ap₂ xor_word (doubled w) (reduced w)
 
+regroup : (p q r s t : ℕ) → bit_xor (bit_xor p q) (bit_xor r (bit_xor s t)) ≡ bit_xor (bit_xor (bit_xor p (bit_xor r s)) q) t
+regroup p q r s t =
+    ap (bit_xor (bit_xor p q)) (sym (xor_assoc r s t))
+    ∙ sym (xor_assoc (bit_xor p q) (bit_xor r s) t)
+    ∙ ap (λ (n : ℕ). bit_xor n t) (xor_assoc p q (bit_xor r s) ∙ ap (bit_xor p) (xor_comm q (bit_xor r s)) ∙ sym (xor_assoc p (bit_xor r s) q))
+
 -- the products with {02} and {03}
 two : (b : ℕ) → 0x02 • b ≡ xtimes b
 unfolding ◌•◌ product
@@ -130,20 +155,18 @@ three : (b : ℕ) → 0x03 • b ≡ bit_xor b (xtimes b)
 unfolding ◌•◌ product
 three b = ap (bit_xor b) (xor_zero_r (xtimes b))
 
-mixed-byte : (a b c d : ℕ) → bit_xor (bit_xor (bit_xor (xtimes a) (bit_xor b (xtimes b))) c) d ≡ mixed a b c d
+mixed-byte : (a b c d : ℕ) → bit_xor (bit_xor (xtimes a) c) (bit_xor b (bit_xor (xtimes b) d)) ≡ mixed a b c d
 unfolding mixed
-mixed-byte a b c d = λ t. bit_xor (bit_xor (bit_xor (sym (two a) t) (sym (three b) t)) c) d
+mixed-byte a b c d =
+    regroup (xtimes a) c b (xtimes b) d
+    ∙ λ t. bit_xor (bit_xor (bit_xor (sym (two a) t) (sym (three b) t)) c) d
 
--- a column, mixed: x is each byte of w times x, and the others are turned
-pub mix-bytes : (w x q z u v : ℕ) → bytes_of x ≡ xtimes_word (bytes_of w) → bytes_of q ≡ rot_word (bytes_of w) → bytes_of z ≡ rot_word (bytes_of q)
-    → bytes_of u ≡ rot_word (bytes_of (bit_xor w x)) → bytes_of v ≡ rot_word (bytes_of z)
-    → bytes_of (bit_xor (bit_xor (bit_xor x u) z) v) ≡ column_mixed (b0 w) (b1 w) (b2 w) (b3 w)
-mix-bytes w x q z u v hx hq hz hu hv =
+-- a column, mixed: x is each byte of w times x, z is w turned by two bytes, and u the sum of all three turned by one
+pub mix-bytes : (w x z u : ℕ) → bytes_of x ≡ xtimes_word (bytes_of w) → bytes_of z ≡ rot_word (rot_word (bytes_of w))
+    → bytes_of u ≡ rot_word (bytes_of (bit_xor w (bit_xor x z))) → bytes_of (bit_xor (bit_xor x z) u) ≡ column_mixed (b0 w) (b1 w) (b2 w) (b3 w)
+mix-bytes w x z u hx hz hu =
     let W : List ℕ = bytes_of w in
-    let ez : bytes_of z ≡ rot_word (rot_word W) = hz ∙ ap rot_word hq in
-    let eu : bytes_of u ≡ rot_word (xor_word W (xtimes_word W)) = hu ∙ ap rot_word (xor_bytes w x ∙ ap (xor_word W) hx) in
-    let ev : bytes_of v ≡ rot_word (rot_word (rot_word W)) = hv ∙ ap rot_word ez in
-    xor_bytes (bit_xor (bit_xor x u) z) v
-    ∙ ap (λ (l : List ℕ). xor_word l (bytes_of v)) (xor_bytes (bit_xor x u) z ∙ ap (λ (l : List ℕ). xor_word l (bytes_of z)) (xor_bytes x u))
-    ∙ (λ t. xor_word (xor_word (xor_word (hx t) (eu t)) (ez t)) (ev t))
+    let hy = xor_bytes x z ∙ ap₂ xor_word hx hz in
+    xor_bytes (bit_xor x z) u
+    ∙ ap₂ xor_word hy (hu ∙ ap rot_word (xor_bytes w (bit_xor x z) ∙ ap (xor_word W) hy))
     ∙ (λ t. mixed-byte (b0 w) (b1 w) (b2 w) (b3 w) t ∷ mixed-byte (b1 w) (b2 w) (b3 w) (b0 w) t ∷ mixed-byte (b2 w) (b3 w) (b0 w) (b1 w) t ∷ mixed-byte (b3 w) (b0 w) (b1 w) (b2 w) t ∷ [])

@@ -1,68 +1,47 @@
 // KEYEXPANSION for AES-128: FIPS 197, section 5.2.
 ghost use Rattle.std.specs.Prelude.{◌≡◌, ◌<◌};
-ghost use Rattle.std.proofs.lemmas.List.Edits.{sets};
-ghost use Rattle.aes.specs.Sbox.{table};
 ghost use Rattle.aes.specs.KeyExpansion.{next_key};
-ghost use Rattle.aes.specs.Prepared.{prepared};
-ghost use Rattle.aes.specs.Words.{bytes, bytes_of};
+ghost use Rattle.aes.specs.Prepared.{prepared, key_at};
+ghost use Rattle.aes.specs.Words.{bytes};
 
-use crate::words;
+use crate::columns::{sub_bytes, times_x};
 use crate::words::Words;
 
 // The round key after k, of round constant rc.
-fn next_key(t: &[u8; 256], k: Words, rc: u32) -> Words
-    requires { (t.now ≡ table) × (rc < 256) }
+fn next_key(k: Words, rc: u32) -> Words
+    requires { rc < 256 }
     ensures { bytes result ≡ next_key rc (bytes k) }
 {
-    let w = words::rot1(k.d);
-    let a = k.a ^ (words::sub_bytes(t, w, w, w, w) ^ rc);
+    let w = k.d.rotate_right(8);
+    let a = k.a ^ (sub_bytes(w, w, w, w) ^ rc);
     let b = k.b ^ a;
     let c = k.c ^ b;
     let d = k.d ^ c;
-    Words {
-        a: a,
-        b: b,
-        c: c,
-        d: d,
-    }
-}
-
-// Puts a word's bytes at i.
-fn put_word(p: &mut [u8; 176], i: usize, w: u32)
-    requires { i < 173 }
-    ensures { p.new ≡ sets p.old i (bytes_of w) }
-{
-    p[i] = (w % 256) as u8;
-    p[i + 1] = (w / 256 % 256) as u8;
-    p[i + 2] = (w / 65536 % 256) as u8;
-    p[i + 3] = (w / 16777216 % 256) as u8;
-}
-
-// Puts a round key at i.
-fn put_key(p: &mut [u8; 176], i: usize, k: Words)
-    requires { i < 161 }
-    ensures { p.new ≡ sets p.old i (bytes k) }
-{
-    put_word(p, i, k.a);
-    put_word(p, i + 4, k.b);
-    put_word(p, i + 8, k.c);
-    put_word(p, i + 12, k.d);
+    Words { a, b, c, d }
 }
 
 // All eleven round keys of a key.
-pub(crate) fn expand(t: &[u8; 256], key: Words) -> [u8; 176]
-    requires { t.now ≡ table }
+pub(crate) fn expand(key: Words) -> [u8; 176]
     ensures { result ≡ prepared (bytes key) }
 {
-    let mut p = [0u8; 176];
+    let mut p = [0; 176];
     let mut k = key;
-    let mut rc: u32 = 1;
-    let mut i: usize = 0;
-    while i < 11 {
-        put_key(&mut p, 16 * i, k);
-        k = next_key(t, k, rc);
-        rc = words::times_x(rc);
-        i += 1;
+    let mut rc = 1;
+    // By an index: once the borrows of chunks_exact_mut are over, the check knows p's length and none of its bytes.
+    for i in 0..11 {
+        p[16 * i..16 * i + 16].copy_from_slice(&<[u8; 16]>::from(k));
+        k = next_key(k, rc);
+        rc = times_x(rc);
     }
     p
+}
+
+// Round key i of a prepared key.
+pub(crate) fn round_key(p: &[u8; 176], i: usize) -> Words
+    requires { i < 11 }
+    ensures { bytes result ≡ key_at p.now i }
+{
+    let mut k = [0; 16];
+    k.copy_from_slice(&p[16 * i..16 * i + 16]);
+    Words::from(k)
 }

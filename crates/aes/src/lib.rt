@@ -7,6 +7,7 @@
 
 #![tactic(auto)]
 
+mod columns;
 mod keys;
 mod round;
 mod sbox;
@@ -16,6 +17,8 @@ ghost use Rattle.std.specs.Prelude.{◌≡◌};
 ghost use Rattle.aes.specs.Cipher.{cipher};
 ghost use Rattle.aes.specs.Prepared.{prepared, under};
 
+use crate::words::Words;
+
 // What encrypting under one key needs of that key.
 pub type Prepared = [u8; 176];
 
@@ -23,22 +26,19 @@ pub type Prepared = [u8; 176];
 pub fn prepare(key: [u8; 16]) -> Prepared
     ensures { result ≡ prepared key }
 {
-    let t = sbox::sbox_table();
-    keys::expand(&t, words::load(key))
+    keys::expand(Words::from(key))
 }
 
 // The encryption of a block under a prepared key.
 pub fn encrypt_prepared(p: &Prepared, block: [u8; 16]) -> [u8; 16]
     ensures { result ≡ under p.now block }
 {
-    let t = sbox::sbox_table();
-    words::store(round::rounds(&t, p, words::load(block)))
+    round::rounds(p, Words::from(block)).into()
 }
 
 // The encryption of a block under a key: CIPHER (block) with the key schedule of key.
 pub fn encrypt(key: [u8; 16], block: [u8; 16]) -> [u8; 16]
     ensures { result ≡ cipher key block }
 {
-    let p = prepare(key);
-    encrypt_prepared(&p, block)
+    encrypt_prepared(&prepare(key), block)
 }

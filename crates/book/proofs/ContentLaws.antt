@@ -5,12 +5,12 @@ use Prim.Native.Nat.{ℕ, ◌+◌, ◌-◌, ◌≤◌, ◌<◌}
 use native.Mathlib.Nat.{zero-add}
 use native.Mathlib.Omega.{arith}
 use lib.ListN.{length, get_or}
-use Rattle.layout.specs.Layout.{rows, entries}
+use Rattle.layout.specs.Layout.{rows, group, name, secret, commands, entries}
 use Rattle.grammar.specs.Checks.{fault_of}
 use Rattle.state.specs.declared.Rights.{Rights}
 use Rattle.book.specs.Contents.{Host, Entry, Interface, host_count, hosts_from, entries_from, interfaces_from, contents_of}
 use Rattle.book.specs.States.{fill, laid, words_of, owners_of, rights_of, names_of, labels_of}
-use Rattle.book.specs.Columns.{collect, field, bytes_of, words, owners, contents, InRoom}
+use Rattle.book.specs.Columns.{collect, name_length, words, owners, contents, InRoom}
 use Rattle.book.proofs.FillLaws.{length-collect, get_or-collect, map-collect}
 use Rattle.book.proofs.RowLaws.{hosts-most, host_at, entry_at, interface_at, hosts-collect, entries-collect, interfaces-collect}
 use Rattle.book.proofs.Good.{hosts-within, interfaces-within, name-within, entries-within}
@@ -24,13 +24,13 @@ module _ (b : List ℕ) (h m : ℕ) where
     words = fill 128 (laid 16 (collect (words b) h m));
     hosts = h;
     interfaces = m;
-    groups = fill 32 (collect (field 0 b) 0 h);
-    sizes = fill 32 (collect (field 1 b) 0 h);
-    spans = fill 8 (collect (field 1 b) h m);
-    commands = fill 8 (collect (field 2 b) h m);
-    entries = fill 8 (collect (field 3 b) h m);
+    groups = fill 32 (collect (group b) 0 h);
+    sizes = fill 32 (collect (name_length b) 0 h);
+    spans = fill 8 (collect (name_length b) h m);
+    commands = fill 8 (collect (commands b) h m);
+    entries = fill 8 (collect (entries b) h m);
     owners = fill 128 (laid 16 (collect (owners b) h m));
-    secrets = fill 128 (laid 16 (collect (bytes_of 1 b) h m));
+    secrets = fill 128 (laid 16 (collect (secret b) h m));
   }
 
   module _ {A : Type 0} where
@@ -50,7 +50,7 @@ module _ (b : List ℕ) (h m : ℕ) where
   counts = ap (λ (g : ℕ → ℕ). collect g h m) (λ t i. count_entries b i t)
 
   pub rights-columns : rights_of (contents b h m) ≡ columns
-  unfolding rights_of field bytes_of
+  unfolding rights_of
   rights-columns = λ t. record {
     words = fill 128 (laid 16 ((of-interfaces words_of ∙ of-entries (λ (e : Entry). e.word)) t));
     hosts = (ap length (hosts-collect b 0 h) ∙ length-collect (host_at b) 0 h) t;
@@ -64,12 +64,12 @@ module _ (b : List ℕ) (h m : ℕ) where
     secrets = fill 128 (laid 16 (of-interfaces (λ (x : Interface). x.secret) t));
   }
 
-  pub names-columns : names_of (contents b h m) ≡ fill 8192 (laid 256 (collect (bytes_of 0 b) 0 h))
-  unfolding names_of bytes_of
+  pub names-columns : names_of (contents b h m) ≡ fill 8192 (laid 256 (collect (name b) 0 h))
+  unfolding names_of
   names-columns = ap (λ (l : List (List ℕ)). fill 8192 (laid 256 l)) (of-hosts (λ (x : Host). x.name))
 
-  pub labels-columns : labels_of (contents b h m) ≡ fill 2048 (laid 256 (collect (bytes_of 0 b) h m))
-  unfolding labels_of bytes_of
+  pub labels-columns : labels_of (contents b h m) ≡ fill 2048 (laid 256 (collect (name b) h m))
+  unfolding labels_of
   labels-columns = ap (λ (l : List (List ℕ)). fill 2048 (laid 256 l)) (of-interfaces (λ (x : Interface). x.name))
 
 pub hosts-rows : (b : List ℕ) → host_count b ≤ rows b

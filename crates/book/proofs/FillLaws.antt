@@ -8,8 +8,8 @@ use native.Mathlib.Numerals.{add-one}
 use native.Mathlib.Omega.{arith}
 use lib.ListN.{length, get_or, set, take, drop, replicate, length-append, length-replicate, replicate-append-replicate, get_or-append}
 use lib.Seq.{append_snoc, set_split, take-append_seam, drop-append-add, get_or-take, get_or-drop, paste, paste-suc}
-use Rattle.octets.specs.Room.{part, over}
-use Rattle.octets.proofs.RoomLaws.{pasted}
+use Rattle.octets.specs.Room.{part, placed, over}
+use Rattle.octets.proofs.RoomLaws.{pasted, placed-fits}
 use Rattle.book.specs.States.{fill, laid}
 use Rattle.book.specs.Columns.{collect, Short}
 
@@ -124,6 +124,13 @@ module _ (w : ℕ) where
         rw e at (fill_more n xs (f (i + k)))
         ∙ sym (fill-fill n w xs (f (i + k)) (omega arith) (s k (omega arith)))
         ∙ ap (fill n) (sym (laid-snoc (collect f i k) (f (i + k))) ∙ ap (laid w) (sym (collect-more f i k)))
+
+    pub laid-put : (n i k : ℕ) → w * k + w ≤ n → Short w f i (suc k)
+        → placed (fill n (laid w (collect f i k))) (w * k) (f (i + k)) ≡ fill n (laid w (collect f i (suc k)))
+    laid-put n i k h s =
+        let e = length-laid i k (λ j l. s j (omega arith)) in
+        let l = length-fill n (laid w (collect f i k)) (omega arith) in
+        placed-fits (fill n (laid w (collect f i k))) (w * k) (f (i + k)) (omega (arith, s k (omega arith))) ∙ laid_more n i k h s
 
     part-row : (zs : List ℕ) (i m k : ℕ) → k < m → Short w f i m
         → part (laid w (collect f i m) ++ zs) (w * k) (length (f (i + k))) ≡ f (i + k)

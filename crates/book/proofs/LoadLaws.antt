@@ -11,8 +11,9 @@ use lib.ListN.{length, get_or}
 use Rattle.octets.specs.Checks.{is_zero}
 use Rattle.octets.specs.Room.{part}
 use Rattle.layout.specs.Layout.{rows, group, name, secret, commands, entries, owner, word}
-use Rattle.grammar.specs.declared.Fault.{Fault}
+use Rattle.grammar.specs.Faults.{Fault}
 use Rattle.grammar.specs.Checks.{fault_of}
+use Rattle.grammar.proofs.FaultLaws.{fault_in-one}
 use Rattle.grammar.proofs.GoodLaws.{good_none}
 use Rattle.state.specs.declared.State.{State}
 use Rattle.state.specs.Records.{closed}
@@ -21,9 +22,9 @@ use Rattle.state.specs.Sound.{sound_rights}
 use Rattle.state.proofs.RecordLaws.{sized-idle, idle-all}
 use Rattle.state.proofs.SoundLaws.{of-sound, sound_none}
 use Rattle.book.specs.Contents.{host_count, contents_of}
-use Rattle.book.specs.States.{fill, laid, state_of, empty_state, loaded_with, loaded}
-use Rattle.book.specs.declared.Loaded.{Loaded}
-use Rattle.book.specs.Columns.{collect, field, bytes_of, words, Short}
+use Rattle.book.specs.States.{fill, laid, state_of, empty_state, Loaded, told, loaded_with, loaded}
+use Rattle.book.specs.declared.Loaded as Declared
+use Rattle.book.specs.Columns.{collect, name_length, words, Short}
 use Rattle.book.proofs.FillLaws.{length-collect, length-fill, length-laid, get_or-collect, get_or-column, get_or-laid, part-laid}
 use Rattle.book.proofs.RowLaws.{secret-short}
 use Rattle.book.proofs.Good.{hosts-within, interfaces-within, name-within, commands-within, entries-within, word_below, secret-whole}
@@ -46,9 +47,15 @@ abbrev state_columns : List ℕ → ℕ → ℕ → State
 state_columns b h m = record {
   rights = columns b h m;
   records = idle_records;
-  names = fill 8192 (laid 256 (collect (bytes_of 0 b) 0 h));
-  labels = fill 2048 (laid 256 (collect (bytes_of 0 b) h m));
+  names = fill 8192 (laid 256 (collect (name b) 0 h));
+  labels = fill 2048 (laid 256 (collect (name b) h m));
 }
+
+-- what a load answers, told once
+pub told-one : (x y : Declared.Loaded) → told x ≡ told y → x ≡ y
+told-one x y e =
+    let v = fault_in-one x.verdict y.verdict (λ t. record { number = (e t).number; offset = (e t).offset }) in
+    λ t. record { verdict = v t; blocks = (e t).blocks; state = (e t).state }
 
 -- a refused load's state
 module _ (b : List ℕ) (r : (fault_of b).number ≡ 0 → ⊥) where
@@ -91,28 +98,24 @@ module _ (b : List ℕ) (e : (fault_of b).number ≡ 0) where
 
   column-name : (i : ℕ) → i < h
       → part (state_columns b h m).names (256 * i) (get_or (columns b h m).sizes i 0) ≡ name b i
-  unfolding field bytes_of
   column-name i l =
-      rw (get_or-column (field 1 b) 32 0 h i l, zero-add) (rw (zero-add i) at (part-laid 256 (bytes_of 0 b) 8192 0 h i l (good-room b e).names))
+      rw (get_or-column (name_length b) 32 0 h i l, zero-add) (rw (zero-add i) at (part-laid 256 (name b) 8192 0 h i l (good-room b e).names))
 
   pub load-name : (i : ℕ) → i < (loaded b).state.rights.hosts
       → part (loaded b).state.names (256 * i) (get_or (loaded b).state.rights.sizes i 0) ≡ name b i
   load-name i l = rw load-columns (column-name i (rw load-hosts at l))
 
   pub load-group : (i : ℕ) → i < (loaded b).state.rights.hosts → get_or (loaded b).state.rights.groups i 0 ≡ group b i
-  unfolding field
-  load-group i l = rw load-columns (get_or-column (field 0 b) 32 0 h i (rw load-hosts at l) ∙ ap (group b) (zero-add i))
+  load-group i l = rw load-columns (get_or-column (group b) 32 0 h i (rw load-hosts at l) ∙ ap (group b) (zero-add i))
 
   module _ (i : ℕ) (l : i < m) where
     column-label : part (state_columns b h m).labels (256 * i) (get_or (columns b h m).spans i 0) ≡ name b (h + i)
-    unfolding field bytes_of
-    column-label = rw (get_or-column (field 1 b) 8 h m i l) (part-laid 256 (bytes_of 0 b) 2048 h m i l (good-room b e).labels)
+    column-label = rw (get_or-column (name_length b) 8 h m i l) (part-laid 256 (name b) 2048 h m i l (good-room b e).labels)
 
     column-secret : part (columns b h m).secrets (16 * i) 16 ≡ secret b (h + i)
-    unfolding bytes_of
     column-secret =
         rw (secret-whole b e (h + i) (omega arith) (omega arith)) at
-        (part-laid 16 (bytes_of 1 b) 128 h m i l (λ k _. secret-short b (h + k)))
+        (part-laid 16 (secret b) 128 h m i l (λ k _. secret-short b (h + k)))
 
     -- a number of each entry
     column-entry : (f : ℕ → ℕ → ℕ) (j : ℕ) → j < entries b (h + i)
@@ -136,19 +139,17 @@ module _ (b : List ℕ) (e : (fault_of b).number ≡ 0) where
   columns-words = laid-length (words b) (λ n q. rw length-collect ((good-room b e).entries n q))
 
   columns-secrets : length (columns b h m).secrets ≡ 128
-  unfolding bytes_of
-  columns-secrets = laid-length (bytes_of 1 b) (λ n _. secret-short b (h + n))
+  columns-secrets = laid-length (secret b) (λ n _. secret-short b (h + n))
 
   columns-sound : sound_rights (columns b h m) ≡ true
-  unfolding field
   columns-sound =
       let q = hosts-rows b in
       of-sound (columns b h m) (record {
         hosts = hosts-within b e;
         interfaces = interfaces-within b e;
-        size = λ i l. rw (get_or-column (field 1 b) 32 0 h i l, zero-add) (name-within b e i (omega arith));
+        size = λ i l. rw (get_or-column (name_length b) 32 0 h i l, zero-add) (name-within b e i (omega arith));
         interface = λ i l.
-            rw (get_or-column (field 1 b) 8 h m i l, get_or-column (field 2 b) 8 h m i l, get_or-column (field 3 b) 8 h m i l) (record {
+            rw (get_or-column (name_length b) 8 h m i l, get_or-column (commands b) 8 h m i l, get_or-column (entries b) 8 h m i l) (record {
               span = name-within b e (h + i) (omega arith);
               commands = commands-within b e (h + i) (omega arith) (omega arith);
               entries = entries-within b e (h + i) (omega arith) (omega arith);
@@ -165,12 +166,10 @@ module _ (b : List ℕ) (e : (fault_of b).number ≡ 0) where
     load-secret = rw load-columns (column-secret i (rw load-interfaces at l))
 
     pub load-commands : get_or (loaded b).state.rights.commands i 0 ≡ commands b (host_count b + i)
-    unfolding field
-    load-commands = rw load-columns (get_or-column (field 2 b) 8 h m i (rw load-interfaces at l))
+    load-commands = rw load-columns (get_or-column (commands b) 8 h m i (rw load-interfaces at l))
 
     pub load-entries : get_or (loaded b).state.rights.entries i 0 ≡ entries b (host_count b + i)
-    unfolding field
-    load-entries = rw load-columns (get_or-column (field 3 b) 8 h m i (rw load-interfaces at l))
+    load-entries = rw load-columns (get_or-column (entries b) 8 h m i (rw load-interfaces at l))
 
     pub load-owner : (j : ℕ) → j < get_or (loaded b).state.rights.entries i 0
         → get_or (loaded b).state.rights.owners (16 * i + j) 0 ≡ owner b (host_count b + i) j

@@ -1,4 +1,4 @@
--- A book's rows: a field by its number, how many of the first rows are hosts, and the lists of a book's contents as what is
+-- A book's rows: how many of the first rows are hosts, and the lists of a book's contents as what is
 -- collected from its rows.
 use mathlib.Core.Path.{◌≡◌, refl}
 use mathlib.Core.List.{List}
@@ -13,16 +13,14 @@ use lib.ListN.{length, length-take}
 use Rattle.octets.specs.Checks.{pick}
 use Rattle.layout.specs.Layout.{kind, group, name, secret, commands, entries, owner, word, hosts_before}
 use Rattle.book.specs.Contents.{Host, Entry, Interface, hosts_from, entries_from, interfaces_from}
-use Rattle.book.specs.Columns.{collect, field, bytes_of}
+use Rattle.book.specs.Columns.{collect}
+
+-- which byte string of a row: 0 its name, any other its master secret
+unfoldable pub bytes_of : ℕ → List ℕ → ℕ → List ℕ
+bytes_of zero b i = name b i
+bytes_of (suc w) b i = secret b i
 
 module _ (b : List ℕ) (i : ℕ) where
-  pub field-rest : (w : ℕ) → (w ≡ 0 → ⊥) → (w ≡ 1 → ⊥) → (w ≡ 2 → ⊥) → field w b i ≡ entries b i
-  unfolding field
-  field-rest zero p q r = absurd (p refl)
-  field-rest (suc zero) p q r = absurd (q refl)
-  field-rest (suc (suc zero)) p q r = absurd (r refl)
-  field-rest (suc (suc (suc w))) p q r = refl
-
   pub bytes_rest : (w : ℕ) → (w ≡ 0 → ⊥) → bytes_of w b i ≡ secret b i
   unfolding bytes_of
   bytes_rest zero p = absurd (p refl)

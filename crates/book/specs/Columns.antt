@@ -1,7 +1,8 @@
 -- What the loader's loops collect from a book's rows and entries: a value of each of m of them, from i on. And what they ask of a book
 -- with h hosts and m interfaces after them.
-use Rattle.std.specs.Prelude.{ℕ, zero, suc, ◌+◌, ◌<◌, ◌≤◌, List, [], ◌∷◌, length}
-use Rattle.layout.specs.Layout.{group, name, secret, commands, entries, owner, word}
+use Rattle.std.specs.Prelude.{ℕ, zero, suc, ◌+◌, ◌<◌, ◌≤◌, ◌≡◌, List, [], ◌∷◌, length}
+use Rattle.std.specs.Borrow.{Bor}
+use Rattle.layout.specs.Layout.{name, entries, owner, word}
 use Rattle.book.specs.Contents.{Contents, hosts_from, interfaces_from}
 
 module _ {A : Type 0} where
@@ -13,17 +14,15 @@ module _ {A : Type 0} where
 abbrev pub Short : ℕ → (ℕ → List ℕ) → ℕ → ℕ → Type 0
 Short w f i m = (k : ℕ) → k < m → length (f (i + k)) ≤ w
 
--- which number of a row: 0 its group, 1 the length of its name, 2 its command count, any other its entry count
-unfoldable pub field : ℕ → List ℕ → ℕ → ℕ
-field zero b i = group b i
-field (suc zero) b i = length (name b i)
-field (suc (suc zero)) b i = commands b i
-field (suc (suc (suc w))) b i = entries b i
+-- what f gives at each of those m rows is g's value there
+abbrev pub Gives : (ℕ → ℕ → Type 0) → (ℕ → ℕ) → ℕ → ℕ → Type 0
+Gives post g from m = (k r : ℕ) → k < m → post (from + k) r → r ≡ g (from + k)
 
--- which byte string of a row: 0 its name, any other its master secret
-unfoldable pub bytes_of : ℕ → List ℕ → ℕ → List ℕ
-bytes_of zero b i = name b i
-bytes_of (suc w) b i = secret b i
+abbrev pub GivesBytes : (ℕ → Bor (List ℕ) → Type 0) → (ℕ → List ℕ) → ℕ → ℕ → Type 0
+GivesBytes post g from m = (k : ℕ) (r : Bor (List ℕ)) → k < m → post (from + k) r → r.now ≡ g (from + k)
+
+abbrev pub name_length : List ℕ → ℕ → ℕ
+name_length b i = length (name b i)
 
 -- the words and the owners of row i
 abbrev pub words : List ℕ → ℕ → List ℕ

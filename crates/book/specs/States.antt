@@ -5,10 +5,10 @@ use Rattle.octets.specs.Checks.{pick, is_zero}
 use Rattle.state.specs.declared.Rights.{Rights}
 use Rattle.state.specs.declared.State.{State}
 use Rattle.state.specs.Flat.{no_rights, idle_records}
-use Rattle.grammar.specs.declared.Fault.{Fault}
+use Rattle.grammar.specs.Faults.{Fault, fault_in}
 use Rattle.grammar.specs.Checks.{fault_of}
 use Rattle.book.specs.Contents.{Host, Entry, Interface, Contents, contents_of}
-use Rattle.book.specs.declared.Loaded.{Loaded}
+use Rattle.book.specs.declared.Loaded as Declared
 
 -- xs, filled out with 0s to n
 unfoldable pub fill : ℕ → List ℕ → List ℕ
@@ -51,6 +51,16 @@ state_of c = record { rights = rights_of c; records = idle_records; names = name
 -- "a refused one makes a state with no hosts and no interfaces"
 unfoldable pub empty_state : State
 empty_state = record { rights = no_rights; records = idle_records; names = replicate 8192 0; labels = replicate 2048 0 }
+
+-- what a load answers: its number, the count of enciphered blocks, the place of the fault (0 if accepted), and the new state
+pub record Loaded : Type 0 where
+  pub number : ℕ
+  pub blocks : ℕ
+  pub offset : ℕ
+  pub state : State
+
+abbrev pub told : Declared.Loaded → Loaded
+told l = record { number = (fault_in l.verdict).number; blocks = l.blocks; offset = (fault_in l.verdict).offset; state = l.state }
 
 -- what loading a book gives: its number and place, no blocks, and the new state
 unfoldable pub loaded_with : Fault → State → Loaded

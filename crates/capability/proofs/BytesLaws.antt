@@ -2,16 +2,18 @@
 use mathlib.Core.Path.{◌≡◌, refl, sym, ap, ◌∙◌}
 use mathlib.Core.List.{List, [], ◌∷◌, ◌++◌, append_assoc, append-nil}
 use Prim.Native.Nat.{ℕ, zero, suc, ◌+◌, ◌*◌, ◌^◌, ◌≤◌, ◌<◌}
+use native.Mathlib.Numerals.{add-one}
 use native.Mathlib.Omega.{arith}
 use lib.ListN.{length, get_or, take, drop, length-append}
-use lib.Seq.{take_all, take_at, drop_at, drop-drop}
+use lib.Seq.{take_all, take_at, drop_at, drop-drop, length-take-le, take-suc}
+use Rattle.std.proofs.Common.{take-append-drop}
 use Rattle.octets.specs.Little.{number, octets}
 use Rattle.octets.specs.Room.{part, placed}
+use Rattle.octets.proofs.RoomLaws.{placed-ind, length-placed}
 use Rattle.octets.proofs.LittleLaws.{length-octets, number-octets}
-use Rattle.octets.proofs.RoomLaws.{length-placed}
 use Rattle.capability.specs.Bytes.{id_of, word_at, four_at, secret_of, word_bytes, capability}
-use Rattle.octets.proofs.PlacedLaws.{placed-next}
 use Rattle.capability.proofs.WordsLaws.{four-written}
+use Rattle.octets.proofs.PlacedLaws.{placed-next}
 
 pub length-words : (ws : List ℕ) → length (word_bytes ws) ≡ 8 * length ws
 unfolding word_bytes
@@ -59,10 +61,10 @@ module _ (id : ℕ) (ws s : List ℕ) where
   length-capability e h = omega (arith, length-append (octets 2 id ++ word_bytes ws) s, head-length e)
 
   -- ID, words and secret, placed one after the other
-  pub capability-placed : (d : List ℕ) → length ws ≡ 4 → length s ≡ 16 → 50 ≤ length d
+  pub capability_placed : (d : List ℕ) → length ws ≡ 4 → length s ≡ 16 → 50 ≤ length d
       → placed (placed (placed d 0 (octets 2 id)) 2 (word_bytes ws)) 34 s ≡ placed d 0 (capability id ws s)
   unfolding capability
-  capability-placed d e h l =
+  capability_placed d e h l =
       rw (placed-next d 0 (octets 2 id) 2 (word_bytes ws) (omega (arith, length-octets 2 id)) (omega (arith, length-words ws)))
       (placed-next d 0 (octets 2 id ++ word_bytes ws) 34 s (omega (arith, head-length e)) (omega arith))
 
@@ -72,11 +74,28 @@ four-back id a b c d s ha hb hc hd =
     let ws : List ℕ = a ∷ b ∷ c ∷ d ∷ [] in
     rw (word-at id ws s 0 (omega arith) ha, word-at id ws s 1 (omega arith) hb, word-at id ws s 2 (omega arith) hc, word-at id ws s 3 (omega arith) hd)
 
+words-more : (xs : List ℕ) (w : ℕ) → word_bytes (xs ++ (w ∷ [])) ≡ word_bytes xs ++ octets 8 w
+unfolding word_bytes
+words-more [] w = append-nil (octets 8 w)
+words-more (x ∷ xs) w = rw (words-more xs w) (sym (append_assoc (octets 8 x) (word_bytes xs) (octets 8 w)))
+
+pub none_placed : (d : List ℕ) → placed d 2 [] ≡ d
+none_placed d = placed-ind d 2 [] (λ l. l ≡ d) (λ h. ap (λ (l : List ℕ). l ++ drop 2 d) (append-nil (take 2 d)) ∙ take-append-drop 2 d) (λ h. refl)
+
+-- the next word, placed after those that stand in the room
+pub word_placed : (d ws : List ℕ) (i : ℕ) → i < length ws → 2 + 8 * length ws ≤ length d
+    → placed (placed d 2 (word_bytes (take i ws))) (2 + 8 * i) (octets 8 (get_or ws i 0)) ≡ placed d 2 (word_bytes (take (i + 1) ws))
+word_placed d ws i h fit =
+    rw add-one
+    (let e : length (word_bytes (take i ws)) ≡ 8 * i = length-words (take i ws) ∙ ap (λ (n : ℕ). 8 * n) (length-take-le i ws (omega arith)) in
+    placed-next d 2 (word_bytes (take i ws)) (2 + 8 * i) (octets 8 (get_or ws i 0)) (omega arith) (omega (arith, length-octets 8 (get_or ws i 0)))
+    ∙ ap (placed d 2) (sym (words-more (take i ws) (get_or ws i 0)) ∙ ap word_bytes (sym (take-suc ws i 0 h))))
+
 -- a word placed before words that follow it
-word-placed : (d : List ℕ) (at n w : ℕ) (ws : List ℕ) → at + 8 ≡ n → n + 8 * length ws ≤ length d
+word-before : (d : List ℕ) (at n w : ℕ) (ws : List ℕ) → at + 8 ≡ n → n + 8 * length ws ≤ length d
     → placed (placed d at (octets 8 w)) n (word_bytes ws) ≡ placed d at (word_bytes (w ∷ ws))
 unfolding word_bytes
-word-placed d at n w ws e h =
+word-before d at n w ws e h =
     placed-next d at (octets 8 w) n (word_bytes ws) (omega (arith, length-octets 8 w)) (omega (arith, length-words ws))
 
 -- four words, placed one after the other
@@ -94,7 +113,7 @@ words_placed ws d e h =
     let l1 : length d1 ≡ length d = length-placed d 2 (octets 8 a) in
     let l2 : length d2 ≡ length d1 = length-placed d1 10 (octets 8 b) in
     ap (placed (placed d2 18 (octets 8 c)) 26) (sym (append-nil (octets 8 f)))
-    ∙ word-placed d2 18 26 c (f ∷ []) refl (omega arith)
-    ∙ word-placed d1 10 18 b (c ∷ f ∷ []) refl (omega arith)
-    ∙ word-placed d 2 10 a (b ∷ c ∷ f ∷ []) refl (omega arith)
+    ∙ word-before d2 18 26 c (f ∷ []) refl (omega arith)
+    ∙ word-before d1 10 18 b (c ∷ f ∷ []) refl (omega arith)
+    ∙ word-before d 2 10 a (b ∷ c ∷ f ∷ []) refl (omega arith)
     ∙ ap (λ (l : List ℕ). placed d 2 (word_bytes l)) (sym (four-written ws e))

@@ -1,17 +1,21 @@
--- The chain of secrets: how many blocks it takes, its secrets' length, how it goes on from a word of an array, and that a narrowed
+-- The chain of secrets: how many blocks it takes, its secrets' length, how the code makes them, and that a narrowed
 -- capability is genuine: words without a hole, narrowed, chain to the old secret moved one step.
-use mathlib.Core.Path.{◌≡◌, refl, ◌∙◌}
+use mathlib.Core.Path.{◌≡◌, refl, ap, ◌∙◌}
 use mathlib.Core.Bool.{Bool, true, false, false≢true}
 use mathlib.Core.List.{List, [], ◌∷◌}
-use Prim.Native.Nat.{ℕ, suc, ◌+◌, ◌≤◌, ◌<◌}
-use native.Mathlib.Numerals.{add-one}
+use Prim.Native.Nat.{ℕ, ◌+◌}
 use native.Mathlib.Omega.{arith}
-use borrow.Author.Tests.{eq-eqb, ne_eqb}
+use borrow.Author.Tests.{ne_eqb}
 use lib.Dec.{eqb}
-use lib.ListN.{length, get_or, drop, drop_of_length-le}
-use lib.Seq.{drop-cons}
+use lib.ListN.{length, replicate}
 use Rattle.octets.specs.Checks.{pick}
-use Rattle.octets.proofs.CheckLaws.{pick-ap, and_left, and_right}
+use Rattle.octets.specs.Little.{octets}
+use Rattle.octets.specs.Room.{placed, filled}
+use Rattle.octets.proofs.PlacedLaws.{block_start}
+use lib.Seq.{take_all}
+use Rattle.octets.proofs.RoomLaws.{filled-there}
+use Rattle.octets.proofs.CheckLaws.{tests, pick-ap, and_left, and_right}
+use Rattle.aes.specs.Cipher.{cipher}
 use Rattle.aes.proofs.CipherLaws.{cipher-length}
 use Rattle.capability.specs.Chain.{all_ones, word_block, first_secret, step, chain, chain_blocks, right_secret, right_blocks, before, only_ones, tight}
 use Rattle.capability.specs.Bytes.{narrowed, open?}
@@ -43,21 +47,20 @@ pub length-right : (master : List ℕ) (id : ℕ) (ws : List ℕ) → length (ri
 unfolding right_secret first_secret
 length-right master id ws = length-chain (first_secret master id) ws (cipher-length master _)
 
--- the chain over the words of an array from `at` on
-module _ (s ws : List ℕ) (at : ℕ) where
-  pub chain-end : length ws ≤ at → (chain s (drop at ws) ≡ s) × (length (chain_blocks s (drop at ws)) ≡ 0)
-  unfolding chain chain_blocks
-  chain-end h = rw (drop_of_length-le ws {i = at} h) (refl, refl)
+-- the secrets as the code makes them: a number's bytes, put at the start of a block of zeros
+pub first_made : (master : List ℕ) (id : ℕ) → cipher master (placed (replicate 16 0) 0 (octets 2 id)) ≡ first_secret master id
+unfolding first_secret
+first_made master id = ap (cipher master) (block_start 2 id (omega arith))
 
-  pub chain-stops : at < length ws → get_or ws at 0 ≡ all_ones → (chain s (drop at ws) ≡ s) × (length (chain_blocks s (drop at ws)) ≡ 0)
-  unfolding chain chain_blocks
-  chain-stops h e = rw (drop-cons ws at 0 h, eq-eqb (get_or ws at 0) all_ones e) (refl, refl)
+pub step_made : (s : List ℕ) (w : ℕ) → cipher s (placed (replicate 16 0) 0 (octets 8 w)) ≡ step s w
+unfolding step
+step_made s w = ap (cipher s) (block_start 8 w (omega arith))
 
-  pub chain-goes : at < length ws → (get_or ws at 0 ≡ all_ones → ⊥)
-      → (chain s (drop at ws) ≡ chain (step s (get_or ws at 0)) (drop (at + 1) ws))
-      × (length (chain_blocks s (drop at ws)) ≡ suc (length (chain_blocks (step s (get_or ws at 0)) (drop (at + 1) ws))))
-  unfolding chain chain_blocks
-  chain-goes h n = rw (drop-cons ws at 0 h, ne_eqb (get_or ws at 0) all_ones n, add-one at) (refl, refl)
+-- bytes that are all there, as they are read
+pub filled_all : (k : ℕ) (s : List ℕ) → length s ≡ k → filled k s 0 ≡ s
+filled_all k s e = filled-there k s 0 (omega arith) ∙ take_all k s (omega arith)
+
+pub ruleset made = (tests, filled-there, filled_all, first_made, step_made)
 
 chain-ones : (s ws : List ℕ) → only_ones ws ≡ true → chain s ws ≡ s
 unfolding chain only_ones

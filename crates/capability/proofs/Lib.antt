@@ -2,4 +2,3 @@ pub mod ChainLaws
 pub mod RightsLaws
 pub mod BytesLaws
 pub mod WordsLaws
-pub mod CallLaws

@@ -1,20 +1,19 @@
 -- What words permit: the all-ones word permits every command, an AND of words permits what both do, and a narrowed capability permits
 -- what it permitted and its new word permits.
 use mathlib.Core.Path.{◌≡◌, refl, sym, ap, ◌∙◌}
-use mathlib.Core.Bool.{Bool, true, false, not, ◌&&◌, false≢true, and-true}
+use mathlib.Core.Bool.{Bool, true, false, ◌&&◌, false≢true}
 use mathlib.Core.List.{List, [], ◌∷◌}
 use Prim.Native.Nat.{ℕ, zero, suc, ◌+◌, ◌-◌, ◌/◌, ◌%◌, ◌^◌, ◌≤◌, ◌<◌}
 use native.Mathlib.Nat.{pow-succ', div-eq_of_lt}
 use native.Mathlib.Omega.{arith}
-use borrow.Author.Tests.{eqb-true, not-true, not-false}
+use borrow.Author.Tests.{eqb-true}
 use lib.Bits.{bit_and, and_shr, and_mod}
 use lib.Dec.{eqb}
-use lib.ListN.{length, get_or}
 use lib.Pow.{pow_pos, pow_mono, ones_lt, ones_split, high}
 use Rattle.capability.specs.Chain.{all_ones}
-use Rattle.capability.specs.Rights.{allows, all_allow, permitted}
+use Rattle.std.specs.List.{list_all}
+use Rattle.capability.specs.Rights.{allows, all_allow}
 use Rattle.capability.specs.Bytes.{narrowed, open?}
-use Rattle.capability.proofs.WordsLaws.{four-written}
 
 bit-ones : (j k : ℕ) → (2 ^ (suc j + k) - 1) / 2 ^ k % 2 ≡ 1
 bit-ones j k =
@@ -39,9 +38,9 @@ allows-and c x y =
     rw (and_shr x y c, and_mod (x / 2 ^ c) (y / 2 ^ c) 1) (low_and (x / 2 ^ c % 2) (y / 2 ^ c % 2) (omega arith) (omega arith))
 
 -- a word has no bit from 64 on
-pub allows-past : (c w : ℕ) → 64 ≤ c → w < 2 ^ 64 → allows c w ≡ false
+pub allows_past : (c w : ℕ) → 64 ≤ c → w < 2 ^ 64 → allows c w ≡ false
 unfolding allows
-allows-past c w h b = rw (div-eq_of_lt {n = w} {m = 2 ^ c} (omega (arith, pow_mono h)))
+allows_past c w h b = rw (div-eq_of_lt {n = w} {m = 2 ^ c} (omega (arith, pow_mono h)))
 
 swap : (a b r : Bool) → (a && (b && r)) ≡ (b && (a && r))
 swap true b r = refl
@@ -57,16 +56,7 @@ narrowed-rights c w (x ∷ xs) h o = either (eqb x all_ones) refl (narrowed-righ
   either true e r = rw (e, eqb-true x all_ones e, allows-ones c h)
   either false e r = rw (e, r (rw e at o)) (swap (allows c x) (allows c w) (all_allow c xs))
 
--- the five tests of a command, in the order of the code
-pub permitted-four : (c p : ℕ) (ws : List ℕ) → length ws ≡ 4
-    → permitted c p ws ≡ (allows c p && (allows c (get_or ws 0 0) && (allows c (get_or ws 1 0) && (allows c (get_or ws 2 0) && allows c (get_or ws 3 0)))))
-unfolding permitted all_allow
-permitted-four c p ws e = ap (permitted c p) (four-written ws e) ∙ rw (and-true (allows c (get_or ws 3 0)))
-
--- a test's answer r that ends the code, and one after which what is left of the tests decides
-module _ (r a b : Bool) (e : r ≡ a) where
-  pub and-stop : not r ≡ true → false ≡ (a && b)
-  and-stop h = rw (← e, not-true r h)
-
-  pub and-go : {x : Bool} → not r ≡ false → x ≡ b → x ≡ (a && b)
-  and-go h k = rw (← e, not-false r h) k
+pub list_allows : (c : ℕ) (ws : List ℕ) → list_all (allows c) ws ≡ all_allow c ws
+unfolding all_allow
+list_allows c [] = refl
+list_allows c (w ∷ ws) = rw (list_allows c ws)

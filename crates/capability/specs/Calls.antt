@@ -5,7 +5,7 @@ use Rattle.octets.specs.Room.{placed}
 use Rattle.capability.specs.Enciphered.{Enciphered}
 use Rattle.capability.specs.Chain.{all_ones, id_block, word_block, first_secret, step}
 use Rattle.capability.specs.Bytes.{id_of, four_at, secret_of, capability, narrowed, open?}
-use Rattle.capability.specs.declared.Answer.{Answer}
+use Rattle.refusal.specs.Answer.{Answer}
 
 -- "Issue: 28, 15 (ID 0), 7."
 unfoldable pub issue_refusal : List ℕ → ℕ → List ℕ → ℕ

@@ -1,5 +1,5 @@
 -- Opening a reply: what each stage of the checks answers, under the cipher of the lent key.
-use mathlib.Core.Path.{◌≡◌, refl, sym, ap, ap₂, ◌∙◌}
+use mathlib.Core.Path.{◌≡◌, refl, sym, ap, ◌∙◌}
 use mathlib.Core.Logic.{◌≢◌}
 use mathlib.Core.Bool.{Bool, true, false, not}
 use mathlib.Core.List.{List, [], ◌∷◌}
@@ -8,12 +8,13 @@ use native.Mathlib.Omega.{arith}
 use borrow.Author.Tests.{not-false, eqb-true, ltb-false}
 use lib.Dec.{eqb, ltb}
 use lib.ListN.{length, drop, length-append, length-drop, length-map}
-use lib.Seq.{take_all}
 use Rattle.octets.specs.Checks.{◌when◌}
 use Rattle.octets.specs.Room.{part, placed, filled}
 use Rattle.octets.specs.Same.{same}
 use Rattle.octets.proofs.CheckLaws.{passed-of, then_some}
-use Rattle.octets.proofs.RoomLaws.{filled-there}
+use Rattle.std.specs.Prelude.{Result, Ok, Err}
+use Rattle.refusal.specs.declared.Refused.{Refused}
+use Rattle.refusal.proofs.NumberLaws.{above-zero, refused-one}
 use Rattle.aes.specs.Cipher.{cipher}
 use Rattle.aes.specs.Prepared.{prepared, under}
 use Rattle.aes.proofs.PreparedLaws.{under-prepared-all}
@@ -23,27 +24,33 @@ use Rattle.gcm.specs.Gcm.{zeros, subkey, j0, tag_of}
 use Rattle.gcm.proofs.GctrLaws.{gctr-count}
 use Rattle.gcm.proofs.GcmLaws.{tag-count}
 use Rattle.capability.specs.Enciphered.{Enciphered, under_key, past}
+use Rattle.capability.proofs.ChainLaws.{filled_all}
+use Rattle.packet.proofs.CommandLaws.{text-length}
+use Rattle.client.proofs.ReplyLaws.{inner_first}
 use Rattle.fields.specs.Reply.{reply_vector}
 use Rattle.packet.specs.Sealed.{right_tag, text_of}
-use Rattle.client.specs.declared.open.Opened.{Opened}
-use Rattle.client.specs.OpenReply.{vector_of, tag_in, encrypted, reply_outer, reply_tagged, reply_text, reply_inner, open_refusal, open_blocks, opened, open_room}
+use Rattle.client.specs.declared.open.Payload.{Payload}
+use Rattle.client.specs.OpenReply.{Opened, opened_in, vector_of, tag_in, encrypted, reply_outer, reply_tagged, reply_text, reply_inner, open_refusal, open_blocks, opened, open_room}
 
 -- a lent key of sixteen bytes, prepared
 pub keyed : (key p : List ℕ) → length key ≡ 16 → p ≡ prepared (filled 16 key 0) → under p ≡ cipher key
-keyed key p e q =
-    ap under (q ∙ ap prepared (filled-there 16 key 0 (omega arith) ∙ take_all 16 key (omega arith))) ∙ under-prepared-all key
+keyed key p e q = ap under (q ∙ ap prepared (filled_all 16 key e)) ∙ under-prepared-all key
 
--- the tag's comparison and the text, of the reply's parts as read
-module _ (key reply p iv : List ℕ) (ek : under p ≡ cipher key) (ev : iv ≡ vector_of reply) where
-  pub right-read : (t c : List ℕ) → t ≡ tag_in reply → c ≡ encrypted reply
-      → right_tag (under p) [] iv t c ≡ right_tag (cipher key) [] (vector_of reply) (tag_in reply) (encrypted reply)
-  right-read t c et ec =
-      ap₂ (λ (f : List ℕ → List ℕ) (v : List ℕ). right_tag f [] v t c) ek ev
-      ∙ ap₂ (λ (x y : List ℕ). right_tag (cipher key) [] (vector_of reply) x y) et ec
+-- the fields, read off the text's first block
+pub inner-read : (ciph : List ℕ → List ℕ) → ((b : List ℕ) → length (ciph b) ≡ 16) → (n : ℕ) (reply t : List ℕ) → 32 ≤ length reply
+    → t ≡ filled 16 (reply_text ciph reply).bytes 0
+    → reply_inner n (length reply - 32) t ≡ reply_inner n (length reply - 32) (reply_text ciph reply).bytes
+unfolding reply_text
+inner-read ciph long n reply t h e =
+    let T = (text_of ciph (vector_of reply) (encrypted reply)).bytes in
+    let four = text-length ciph long (vector_of reply) (encrypted reply) ∙ length-drop 28 reply in
+    ap (reply_inner n (length reply - 32)) e ∙ inner_first n (length reply - 32) T (omega arith)
 
-  pub text-read : (text_of (under p) iv (drop 28 reply)).bytes ≡ (reply_text (cipher key) reply).bytes
-  unfolding reply_text
-  text-read = ap₂ (λ (f : List ℕ → List ℕ) (v : List ℕ). (text_of f v (drop 28 reply)).bytes) ek ev
+pub opened_in-one : (x y : Result Payload Refused) → opened_in x ≡ opened_in y → x ≡ y
+opened_in-one (Ok a) (Ok b) e = ap (λ (o : Opened). Ok (record { blocks = o.blocks; length = o.length })) e
+opened_in-one (Ok a) (Err s) e = absurd (above-zero s.why (sym (ap (λ (o : Opened). o.number) e)))
+opened_in-one (Err r) (Ok b) e = absurd (above-zero r.why (ap (λ (o : Opened). o.number) e))
+opened_in-one (Err r) (Err s) e = ap Err (refused-one r s (ap (λ (o : Opened). o.number) e) (ap (λ (o : Opened). o.blocks) e))
 
 past-some : (a : ℕ) (bs : List Enciphered) → a ≢ 0 → past a bs ≡ []
 past-some zero bs h = absurd (h refl)
@@ -132,3 +139,5 @@ module _ (key : List ℕ) (n : ℕ) (p room : List ℕ) where
           → Answers 0 (b + 2) (length p - 32) (placed room 0 (drop 4 (reply_text (cipher key) p).bytes))
       unfolding opened open_room
       reply-opens b e q = rw (passes, e, all_blocks b q) (refl, refl)
+
+pub ruleset passed = (outer-passed)

@@ -14,6 +14,7 @@ use Rattle.octets.specs.Room.{number_at, placed, filled}
 use Rattle.octets.proofs.CheckLaws.{and_left, and_right, passed-of}
 use Rattle.octets.proofs.RoomLaws.{filled-there}
 use Rattle.octets.proofs.PlacedLaws.{placed-next, placed-whole}
+use Rattle.refusal.proofs.NumberLaws.{refusal-above}
 use Rattle.capability.specs.Bytes.{id_of}
 use Rattle.fields.specs.Command.{command_lead, open_lead}
 use Rattle.packet.specs.Sealed.{sealed_packet, sealed_blocks}
@@ -45,6 +46,8 @@ lent key vector capability sequence payload room e =
       payload = ltb-false _ _ p.1.1.1.0;
       room = ltb-false _ _ p.1.1.1.1.0;
     }
+
+pub ruleset judged = (refusal-above, lent)
 
 -- the text before the payload, in a room of its length: sixteen bytes of fields, then what the capability has after its ID
 pub head-laid : (lead x : List ℕ) → length lead ≡ 16 → length x ≡ 48 → placed (placed (replicate 64 0) 0 lead) 16 x ≡ lead ++ x

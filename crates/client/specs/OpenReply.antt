@@ -1,8 +1,10 @@
 -- Document 01: opening a reply. "Open reply: 28, 1, 2, 5, 7, 8, 11, 12." The payload is written once the last check has passed.
-use Rattle.std.specs.Prelude.{ℕ, ◌-◌, not, List, [], ◌∷◌, ◌++◌, eqb, ltb, length, drop}
+use Rattle.std.specs.Prelude.{ℕ, ◌-◌, Result, Ok, Err, not, List, [], ◌∷◌, ◌++◌, eqb, ltb, length, drop}
 use Rattle.octets.specs.Checks.{pick, is_zero, ◌when◌, refusal, ◌then◌}
 use Rattle.octets.specs.Room.{part, number_at, filled}
 use Rattle.octets.specs.Same.{same}
+use Rattle.refusal.specs.declared.Refused.{Refused}
+use Rattle.refusal.specs.Numbers.{refusal_number}
 use Rattle.aes.specs.Cipher.{cipher}
 use Rattle.gcm.specs.Gctr.{Out}
 use Rattle.gcm.specs.Gcm.{zeros, subkey, tag_of}
@@ -10,7 +12,18 @@ use Rattle.capability.specs.Calls.{written}
 use Rattle.capability.specs.Enciphered.{Enciphered, under_key, past}
 use Rattle.fields.specs.Reply.{reply_vector}
 use Rattle.packet.specs.Sealed.{right_tag, text_of}
-use Rattle.client.specs.declared.open.Opened.{Opened}
+use Rattle.client.specs.declared.open.Payload.{Payload}
+
+-- what the opening of a reply answers
+pub record Opened : Type 0 where
+  pub number : ℕ
+  pub blocks : ℕ
+  pub length : ℕ
+
+-- read out of what the call hands back
+abbrev pub opened_in : Result Payload Refused → Opened
+opened_in (Ok p) = record { number = 0; blocks = p.blocks; length = p.length }
+opened_in (Err r) = record { number = refusal_number r.why; blocks = r.blocks; length = 0 }
 
 -- the parts of a reply
 abbrev pub vector_of : List ℕ → List ℕ

@@ -3,12 +3,12 @@
 use Rattle.std.specs.Prelude.{ℕ, ◌+◌, not, ◌&&◌, List, [], ◌∷◌, ◌++◌, eqb, leb, ltb, length, drop}
 use Rattle.octets.specs.Checks.{◌when◌, refusal}
 use Rattle.octets.specs.Room.{number_at}
+use Rattle.refusal.specs.Answer.{Answer}
 use Rattle.aes.specs.Cipher.{cipher}
 use Rattle.gcm.specs.Gcm.{seal}
 use Rattle.capability.specs.Bytes.{id_of}
 use Rattle.capability.specs.Calls.{answer, written}
 use Rattle.capability.specs.Enciphered.{Enciphered, under_key}
-use Rattle.capability.specs.declared.Answer.{Answer}
 use Rattle.fields.specs.Command.{command_lead, open_lead}
 use Rattle.packet.specs.Sealed.{sealed_packet}
 use Rattle.client.specs.declared.seal.Ask.{Ask}

@@ -6,11 +6,5 @@
 mod open;
 mod seal;
 
-pub use open::{Opened, open_reply};
+pub use open::{Payload, open_reply};
 pub use seal::{Ask, seal_command};
-
-pub(crate) const LENGTH_WRONG: u8 = 28;
-
-pub(crate) const VECTOR: u8 = 5;
-
-pub(crate) const ROOM_SHORT: u8 = 7;

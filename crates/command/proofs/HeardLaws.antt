@@ -10,11 +10,14 @@ use borrow.Author.Tests.{ltb-false}
 use lib.Dec.{eqb}
 use lib.ListN.{length, drop, length-append, length-drop, length-map}
 use lib.Seq.{drop-drop}
+use Rattle.std.specs.Prelude.{Result, Ok, Err}
 use Rattle.octets.specs.Checks.{pick, ◌then◌}
 use Rattle.octets.specs.Room.{part}
 use Rattle.octets.specs.Same.{same}
 use Rattle.octets.proofs.CheckLaws.{passed-of, then_some, then-none}
 use Rattle.octets.proofs.RoomLaws.{length-filled}
+use Rattle.refusal.specs.declared.Refused.{Refused}
+use Rattle.refusal.proofs.NumberLaws.{above-zero, refused-one}
 use Rattle.ghash.specs.Ghash.{blocks_in}
 use Rattle.gcm.specs.Gctr.{inc32, gctr}
 use Rattle.gcm.specs.Gcm.{subkey, counter, j0}
@@ -34,14 +37,21 @@ use Rattle.fields.proofs.OrderLaws.{order-head}
 use Rattle.packet.proofs.CommandLaws.{text_head, text-rest}
 use Rattle.command.specs.Command.{ciph_of, outer_rows, outer, tagged, text, order, named, judged, genuine, weighed, opening, command_refusal}
 use Rattle.command.specs.Blocks.{tag_blocks, chained, command_blocks}
-use Rattle.command.specs.Heard.{no_order, answering, heard, heard_room}
-use Rattle.command.specs.declared.Heard.{Heard}
+use Rattle.command.specs.Heard.{Heard, no_order, answering, heard_in, text_heard, text_room, heard, heard_room}
+use Rattle.command.specs.declared.Accepted.{Accepted}
 
 -- a refusal carries no order, and leaves the room as it was
 refusing : (n b : ℕ) (o : Order) (x room : List ℕ) → n ≢ 0
     → (◌≡◌ {A = Heard} (record { number = n; blocks = b; order = no_order }) (answering n b o)) × (room ≡ written n x room)
 refusing zero b o x room h = absurd (h refl)
 refusing (suc n) b o x room h = (refl, refl)
+
+-- what a command is answered settles what the call hands back
+pub heard_in-one : (x y : Result Accepted Refused) → heard_in x ≡ heard_in y → x ≡ y
+heard_in-one (Ok a) (Ok b) e = ap (λ (h : Heard). Ok (record { blocks = h.blocks; order = h.order })) e
+heard_in-one (Ok a) (Err s) e = absurd (above-zero s.why (sym (ap (λ (h : Heard). h.number) e)))
+heard_in-one (Err r) (Ok b) e = absurd (above-zero r.why (ap (λ (h : Heard). h.number) e))
+heard_in-one (Err r) (Err s) e = ap Err (refused-one r s (ap (λ (h : Heard). h.number) e) (ap (λ (h : Heard). h.blocks) e))
 
 past-some : (n : ℕ) (bs : List Enciphered) → n ≢ 0 → past n bs ≡ []
 past-some zero bs h = absurd (h refl)
@@ -117,14 +127,6 @@ module _ (v : View) (r : Rights) (p : List ℕ) (o : Order) (k : ℕ) (x room : 
   text-judged e =
       let all : k + 2 + length chain ≡ 2 + (k + length chain) = omega arith in
       rw (then-none n (genuine (named r o) o) e, past-none n chain e, all) (refl, refl)
-
--- what is answered and what is written of a command whose text is judged
-abbrev pub text_heard : (List ℕ → List ℕ) → View → Rights → List ℕ → Heard
-text_heard ciph v r p =
-    answering (weighed v r p (order ciph p)) (2 + (blocks_in (length p - 32) + length (chained v r p (order ciph p)))) (order ciph p)
-
-abbrev pub text_room : (List ℕ → List ℕ) → View → Rights → List ℕ → List ℕ → List ℕ
-text_room ciph v r p room = written (weighed v r p (order ciph p)) (payload_of (text ciph p).bytes) room
 
 -- ---- the whole
 

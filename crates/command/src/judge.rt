@@ -1,147 +1,113 @@
 // The checks of a command, each against its table.
 ghost use Rattle.std.specs.Prelude.{◌≡◌, ◌||◌, ◌-◌, ◌≤◌, eqb, length};
 ghost use Rattle.octets.specs.Checks.{is_zero, ◌then◌};
+ghost use Rattle.refusal.specs.Numbers.{number_of};
 ghost use Rattle.fields.specs.Command.{client_of};
 ghost use Rattle.command.specs.Command.{outer, inner, rightful};
 
-const UNSOUND: u8 = 39;
-
-const BELOW: u8 = 1;
-
-const ABOVE: u8 = 2;
-
-const ZEROS: u8 = 3;
-
-const NO_HOST: u8 = 4;
-
-const VECTOR: u8 = 5;
-
-const NOT_OPEN: u8 = 6;
-
-const ROOM_SHORT: u8 = 7;
-
-const CLIENT_DIFFERS: u8 = 9;
-
-const INNER_ZEROS: u8 = 10;
-
-const LENGTH_FIELD: u8 = 11;
-
-const NOT_FRESH: u8 = 12;
-
-const GROUP: u8 = 13;
-
-const NO_INTERFACE: u8 = 14;
-
-const NO_ENTRY: u8 = 15;
-
-const ENTRY_GROUP: u8 = 16;
-
-const NO_COMMAND: u8 = 17;
-
-const NOT_PERMITTED: u8 = 18;
+use octets::Little;
+use refusal::Refusal;
 
 // The packet's open part, the connection and the room: 39, then 1 to 7.
-pub(crate) fn outer(v: view::View, packet: &[u8], room: usize) -> u8
-    ensures { result ≡ outer v packet.now room }
+#[tactic(auto, unfolding(crate::specs::Command::outer))]
+pub(crate) fn outer(v: view::View, packet: &[u8], room: usize) -> Result<(), Refusal>
+    ensures { number_of result ≡ outer v packet.now room }
 {
     if !v.good {
-        return UNSOUND;
+        return Err(Refusal::Unsound);
     }
     let n = packet.len();
     if n < 96 {
-        return BELOW;
+        return Err(Refusal::Below);
     }
     if 16480 < n {
-        return ABOVE;
+        return Err(Refusal::Above);
     }
-    if octets::u16_at(packet, 2) != 0 {
-        return ZEROS;
+    if u16::at(packet, 2) != 0 {
+        return Err(Refusal::Zeros);
     }
-    if view::no_such(octets::u16_at(packet, 0), v.hosts) {
-        return NO_HOST;
+    if view::no_such(u16::at(packet, 0), v.hosts) {
+        return Err(Refusal::NoHost);
     }
-    if 128 <= octets::u8_at(packet, 4) {
-        return VECTOR;
+    if 128 <= u8::at(packet, 4) {
+        return Err(Refusal::Vector);
     }
-    let held = v.held;
-    let phase = held.phase;
-    let state::Phase::Open { last, owed } = phase else {
-        return NOT_OPEN;
+    let state::Phase::Open { .. } = v.held.phase else {
+        return Err(Refusal::NotOpen);
     };
     if room < n - 96 {
-        return ROOM_SHORT;
+        return Err(Refusal::RoomShort);
     }
-    0
+    Ok(())
 }
 
 // Whether a group is 0 or the one that is asked for.
 fn of_group(group: u16, asked: u16) -> bool
     ensures { result ≡ (is_zero group || eqb group asked) }
 {
-    if group == 0 {
-        return true;
-    }
-    group == asked
+    group == 0 || group == asked
 }
 
 // What the text says against the packet and the connection: 9 to 14.
-fn inner(v: view::View, client: u16, n: usize, o: fields::Order) -> u8
-    ensures { result ≡ inner v client n o }
+#[tactic(auto, unfolding(crate::specs::Command::inner))]
+fn inner(v: view::View, client: u16, n: usize, o: fields::Order) -> Result<(), Refusal>
+    ensures { number_of result ≡ inner v client n o }
 {
     if o.client != client {
-        return CLIENT_DIFFERS;
+        return Err(Refusal::ClientDiffers);
     }
     if o.zeros != 0 {
-        return INNER_ZEROS;
+        return Err(Refusal::InnerZeros);
     }
-    if o.length as usize != n {
-        return LENGTH_FIELD;
+    if usize::from(o.length) != n {
+        return Err(Refusal::LengthField);
     }
-    let held = v.held;
-    let phase = held.phase;
-    let state::Phase::Open { last, owed } = phase else {
-        return NOT_FRESH;
+    let state::Phase::Open { last, .. } = v.held.phase else {
+        return Err(Refusal::NotFresh);
     };
     if o.sequence <= last {
-        return NOT_FRESH;
+        return Err(Refusal::NotFresh);
     }
     if !of_group(o.group, v.group) {
-        return GROUP;
+        return Err(Refusal::Group);
     }
     if view::no_such(o.interface, v.interfaces) {
-        return NO_INTERFACE;
+        return Err(Refusal::NoInterface);
     }
-    0
+    Ok(())
 }
 
-// What the text says against the right that it names: 15 to 18.
-fn rightful(f: view::Right, o: fields::Order) -> u8
-    ensures { result ≡ rightful f o }
+// What the text says against the right that it names: 15 to 18. Right and order stay two parameters: a pair of them would be made in one
+// function only to be taken apart in the others.
+#[tactic(auto, unfolding(crate::specs::Command::rightful))]
+fn rightful(f: view::Right, o: fields::Order) -> Result<(), Refusal>
+    ensures { number_of result ≡ rightful f o }
 {
     if view::no_such(o.capability, f.entries) {
-        return NO_ENTRY;
+        return Err(Refusal::NoEntry);
     }
     if !of_group(f.owner, o.group) {
-        return ENTRY_GROUP;
+        return Err(Refusal::EntryGroup);
     }
-    if f.commands <= o.command as u16 {
-        return NO_COMMAND;
+    if f.commands <= u16::from(o.command) {
+        return Err(Refusal::NoCommand);
     }
-    let words = o.words;
-    if !capability::permits(o.command, f.word, words) {
-        return NOT_PERMITTED;
+    if !capability::permits(o.command, f.word, o.words) {
+        return Err(Refusal::NotPermitted);
     }
-    0
+    Ok(())
 }
 
 // The text's checks but the last: 9 to 18. f is the right that the order names.
-pub(crate) fn judged(v: view::View, f: view::Right, packet: &[u8], o: fields::Order) -> u8
-    requires { 96 ≤ length packet.now }
-    ensures { result ≡ (inner v (client_of packet.now) (length packet.now - 96) o then rightful f o) }
+pub(crate) fn judged(
+    v: view::View,
+    f: view::Right,
+    client: u16,
+    n: usize,
+    o: fields::Order,
+) -> Result<(), Refusal>
+    ensures { number_of result ≡ (inner v client n o then rightful f o) }
 {
-    let first = inner(v, octets::u16_at(packet, 0), packet.len() - 96, o);
-    if first != 0 {
-        return first;
-    }
+    inner(v, client, n, o)?;
     rightful(f, o)
 }

@@ -18,151 +18,122 @@ ghost use Rattle.capability.specs.Chain.{right_blocks};
 ghost use Rattle.capability.specs.Calls.{written};
 ghost use Rattle.fields.specs.Command.{vector_of, additional, tag_in, encrypted, payload_of};
 ghost use Rattle.packet.specs.Sealed.{right_tag};
-ghost use Rattle.command.specs.Command.{text, order, genuine, weighed};
-ghost use Rattle.command.specs.Blocks.{chained};
-ghost use Rattle.command.specs.Heard.{no_order, answering, heard, heard_room};
+ghost use Rattle.command.specs.Command.{text, order, genuine};
+ghost use Rattle.command.specs.Heard.{answering, heard_in, text_heard, text_room, heard, heard_room};
 
-const TAG_WRONG: u8 = 8;
+use octets::Little;
+use refusal::{Refusal, Refused};
 
-const SECRET_WRONG: u8 = 19;
-
-// What a command is answered: the number, how many blocks were counted, and its inner fields, all 0 on a refusal.
-#[derive(Clone, Copy)]
-pub struct Heard {
-    pub number: u8,
+// What an accepted command is answered: how many blocks were counted, and its inner fields.
+#[derive(Clone, Copy, Debug, PartialEq, Eq)]
+pub struct Accepted {
     pub blocks: usize,
     pub order: fields::Order,
 }
 
-fn no_order() -> fields::Order
-    ensures { result ≡ no_order }
-{
-    fields::Order {
-        client: 0,
-        sequence: 0,
-        group: 0,
-        interface: 0,
-        capability: 0,
-        length: 0,
-        command: 0,
-        zeros: 0,
-        words: [0; 4],
-        secret: [0; 16],
+// A packet past the outer checks, and its key, prepared.
+#[derive(Clone, Copy)]
+struct Sealed<'a> {
+    p: &'a aes::Prepared,
+    packet: &'a [u8],
+    ghost long: { 96 ≤ length packet.now },
+    ghost bounded: { length packet.now ≤ 16480 },
+}
+
+impl Sealed<'_> {
+    // Whether the packet's tag is right under its key.
+    fn tag_right(&self) -> bool
+        ensures { let p = self.now.packet.now in result ≡ right_tag (under self.now.p.now) (additional p) (vector_of p) (tag_in p) (encrypted p) }
+    {
+        packet::authentic(
+            self.p,
+            octets::part(self.packet, 0, 4),
+            fields::vector_at(self.packet, 4),
+            octets::bytes_at(self.packet, 16),
+            &self.packet[32..],
+        )
+    }
+
+    // What the first 64 bytes of the text say.
+    fn order(&self) -> fields::Order
+        ensures { result ≡ order (under self.now.p.now) self.now.packet.now }
+    {
+        let mut head = [0; 64];
+        packet::decipher(
+            self.p,
+            fields::vector_at(self.packet, 4),
+            2,
+            octets::part(self.packet, 32, 64),
+            &mut head,
+        );
+        fields::order_of(head)
+    }
+
+    // The checks of the text, and the payload where they pass.
+    fn entered(
+        &self,
+        v: view::View,
+        rights: state::Rights,
+        room: &mut [u8],
+    ) -> Result<Accepted, Refused>
+        ensures { (heard_in result ≡ text_heard (under self.now.p.now) v rights self.now.packet.now)
+            × (room.new ≡ text_room (under self.now.p.now) v rights self.now.packet.now room.old) }
+    {
+        let o = self.order();
+        let f = view::right_at(rights, o.interface, o.capability);
+        let client = u16::at(self.packet, 0);
+        let blocks = gcm::blocks_in(self.packet.len() - 32) + 2;
+        judge::judged(v, f, client, self.packet.len() - 96, o).map_err(|why| Refused {
+            why,
+            blocks,
+        })?;
+        self.finish(f, o, blocks, room)
+    }
+
+    // The last check, and the payload at the start of the room where it passes. `count` is what is counted before it.
+    fn finish(
+        &self,
+        f: view::Right,
+        o: fields::Order,
+        count: usize,
+        room: &mut [u8],
+    ) -> Result<Accepted, Refused>
+        requires { count ≤ 1100 }
+        ensures { (heard_in result ≡ answering (genuine f o) (count + length (right_blocks f.secret o.capability o.words)) o)
+            × (room.new ≡ written (genuine f o) (payload_of (text (under self.now.p.now) self.now.packet.now).bytes) room.old) }
+    {
+        let right = capability::right_secret(f.secret, o.capability, o.words);
+        let blocks = count + right.blocks;
+        if !octets::equal(&o.secret, &right.secret) {
+            return Err(Refused {
+                why: Refusal::SecretWrong,
+                blocks,
+            });
+        }
+        let payload = &self.packet[96..];
+        packet::decipher(self.p, fields::vector_at(self.packet, 4), 6, payload, room);
+        Ok(Accepted { blocks, order: o })
     }
 }
 
-// A refusal with that number and count.
-fn refused(number: u8, blocks: usize) -> Heard
-    ensures { result ≡ record { number = number; blocks = blocks; order = no_order } }
-{
-    let none = no_order();
-    Heard {
-        number: number,
-        blocks: blocks,
-        order: none,
-    }
-}
-
-// Whether the packet's tag is right under the prepared key.
-fn tag_right(p: &aes::Prepared, packet: &[u8]) -> bool
-    ensures { result ≡ right_tag (under p.now) (additional packet.now) (vector_of packet.now) (tag_in packet.now) (encrypted packet.now) }
-{
-    let iv = fields::vector_at(packet, 4);
-    let tag = octets::sixteen(packet, 16);
-    packet::authentic(
-        p,
-        octets::part(packet, 0, 4),
-        iv,
-        tag,
-        octets::part(packet, 32, packet.len()),
-    )
-}
-
-// The first 64 bytes of the text.
-fn head(p: &aes::Prepared, packet: &[u8]) -> [u8; 64]
-    requires { 96 ≤ length packet.now }
-    ensures { result ≡ (gctr (under p.now) (counter (vector_of packet.now) 2) (part packet.now 32 64)).bytes }
-{
-    let mut out = [0u8; 64];
-    packet::decipher(
-        p,
-        fields::vector_at(packet, 4),
-        2,
-        octets::part(packet, 32, 64),
-        &mut out,
-    );
-    out
-}
-
-// The last check, and the payload at the start of the room where it passes. `count` is what is counted before it.
-fn finish(
-    p: &aes::Prepared,
-    f: view::Right,
-    o: fields::Order,
-    packet: &[u8],
-    room: &mut [u8],
-    count: usize,
-) -> Heard
-    requires { (96 ≤ length packet.now) × (count ≤ 1100) }
-    ensures { (result ≡ answering (genuine f o) (count + length (right_blocks f.secret o.capability o.words)) o)
-        × (room.new ≡ written (genuine f o) (gctr (under p.now) (counter (vector_of packet.now) 6) (drop 96 packet.now)).bytes room.old) }
-{
-    let master = f.secret;
-    let words = o.words;
-    let chained = capability::right_secret(master, o.capability, words);
-    let all = count + chained.blocks;
-    let right = chained.secret;
-    let secret = o.secret;
-    if !octets::equal(&secret, &right) {
-        return refused(SECRET_WRONG, all);
-    }
-    packet::decipher(p, fields::vector_at(packet, 4), 6, &packet[96..], room);
-    Heard {
-        number: 0,
-        blocks: all,
-        order: o,
-    }
-}
-
-// The checks of the text, and the payload where they pass.
-fn entered(
-    p: &aes::Prepared,
+// Judges a command, and writes its payload where it is accepted.
+pub fn hear(
     v: view::View,
     rights: state::Rights,
     packet: &[u8],
     room: &mut [u8],
-) -> Heard
-    requires { (96 ≤ length packet.now) × (length packet.now ≤ 16480) }
-    ensures { (result ≡ answering (weighed v rights packet.now (order (under p.now) packet.now))
-        (2 + (blocks_in (length packet.now - 32) + length (chained v rights packet.now (order (under p.now) packet.now))))
-        (order (under p.now) packet.now))
-        × (room.new ≡ written (weighed v rights packet.now (order (under p.now) packet.now))
-        (payload_of (text (under p.now) packet.now).bytes) room.old) }
-{
-    let o = fields::order_of(head(p, packet));
-    let f = view::right_at(rights, o.interface, o.capability);
-    let count = gcm::blocks_in(packet.len() - 32) + 2;
-    let number = judge::judged(v, f, packet, o);
-    if number != 0 {
-        return refused(number, count);
-    }
-    finish(p, f, o, packet, room, count)
-}
-
-// Judges a command, and writes its payload where it is accepted.
-pub fn hear(v: view::View, rights: state::Rights, packet: &[u8], room: &mut [u8]) -> Heard
-    ensures { (result ≡ heard v rights packet.now room.old)
+) -> Result<Accepted, Refused>
+    ensures { (heard_in result ≡ heard v rights packet.now room.old)
         × (room.new ≡ heard_room v rights packet.now room.old) }
 {
-    let early = judge::outer(v, packet, room.len());
-    if early != 0 {
-        return refused(early, 0);
+    judge::outer(v, packet, room.len())?;
+    let p = aes::prepare(v.held.key);
+    let sealed = Sealed { p: &p, packet };
+    if !sealed.tag_right() {
+        return Err(Refused {
+            why: Refusal::TagWrong,
+            blocks: 2,
+        });
     }
-    let held = v.held;
-    let key = held.key;
-    let p = aes::prepare(key);
-    if !tag_right(&p, packet) {
-        return refused(TAG_WRONG, 2);
-    }
-    entered(&p, v, rights, packet, room)
+    sealed.entered(v, rights, room)
 }

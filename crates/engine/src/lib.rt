@@ -13,11 +13,10 @@ ghost use Rattle.gcm.specs.Gcm.{seal, open'};
 ghost use Rattle.gcm.specs.Answers.{sealing, room_sealed, seal_number, opening, room_opened, open_number, open_blocks};
 ghost use Rattle.engine.specs.Numbers.{seal_tag};
 
+use gcm::Unopened;
+use refusal::Refusal;
+
 const DONE: u8 = 0;
-
-const ROOM_SHORT: u8 = 7;
-
-const TAG_WRONG: u8 = 8;
 
 // out := CIPH_key (block)
 pub fn dq_aes128_encrypt(key: &[u8; 16], block: &[u8; 16], out: &mut [u8; 16])
@@ -57,14 +56,18 @@ pub fn dq_gcm_seal(
         × (tag.new ≡ seal_tag fit s tag.old)
         × (room.new ≡ room_sealed fit s room.old) }
 {
-    let s = gcm::seal(*key, *iv, a, text, room);
-    *blocks = s.blocks;
-    if s.sealed {
-        let t = s.tag;
-        *tag = t;
-        DONE
-    } else {
-        ROOM_SHORT
+    match gcm::seal(*key, *iv, a, text, room) {
+        Some(sealed) => {
+            // An array that is a field isn't stored straight: the check doesn't cover that.
+            let made = sealed.tag;
+            *tag = made;
+            *blocks = sealed.blocks;
+            DONE
+        }
+        None => {
+            *blocks = 0;
+            Refusal::RoomShort.number()
+        }
     }
 }
 
@@ -84,19 +87,11 @@ pub fn dq_gcm_open(
         × (blocks.new ≡ open_blocks (opening fit o))
         × (room.new ≡ room_opened fit o room.old) }
 {
-    let o = gcm::open(*key, *iv, a, text, *tag, room);
-    match o {
-        gcm::Opening::Short => {
-            *blocks = 0;
-            ROOM_SHORT
-        }
-        gcm::Opening::Fail { blocks: b } => {
-            *blocks = b;
-            TAG_WRONG
-        }
-        gcm::Opening::Plain { blocks: b } => {
-            *blocks = b;
-            DONE
-        }
-    }
+    let (number, count) = match gcm::open(*key, *iv, a, text, *tag, room) {
+        Ok(enciphered) => (DONE, enciphered),
+        Err(Unopened::Short) => (Refusal::RoomShort.number(), 0),
+        Err(Unopened::TagWrong { blocks }) => (Refusal::TagWrong.number(), blocks),
+    };
+    *blocks = count;
+    number
 }

@@ -1,3 +1,4 @@
+pub mod HandedLaws
 pub mod CloseLaws
 pub mod RevokeLaws
 pub mod RequestLaws

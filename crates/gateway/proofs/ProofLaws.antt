@@ -1,17 +1,23 @@
 -- What is known of an accepted proof.
 use mathlib.Core.Path.{◌≡◌, refl}
-use mathlib.Core.Bool.{true}
+use mathlib.Core.Bool.{true, not}
 use mathlib.Core.List.{List, [], ◌∷◌}
 use Prim.Native.Nat.{ℕ, ◌≤◌}
 use borrow.Author.Tests.{not-false, eqb-true, ltb-false}
+use lib.Dec.{eqb, ltb}
 use lib.ListN.{length}
-use Rattle.octets.specs.Checks.{◌when◌}
+use Rattle.octets.specs.Checks.{Row, ◌when◌}
 use Rattle.octets.specs.Same.{same}
 use Rattle.octets.proofs.CheckLaws.{passed-of}
 use Rattle.view.specs.Phases.{is_waiting}
 use Rattle.view.specs.declared.View.{View}
 use Rattle.view.proofs.CountedLaws.{such}
 use Rattle.gateway.specs.Proof.{second, proof_refusal}
+
+-- the rows of a host's proof past those about the host
+abbrev pub proof_rows : View → List ℕ → ℕ → List Row
+proof_rows v p n =
+    25 when not (eqb (length p) 32) ∷ 26 when not (is_waiting v.held.phase) ∷ 27 when not (same (second p) v.held.challenge) ∷ 7 when ltb n 20 ∷ []
 
 pub record ProofPassed (v : View) (h : ℕ) (p : List ℕ) (n : ℕ) : Type 0 where
   pub good : v.good ≡ true

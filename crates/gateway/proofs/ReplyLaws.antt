@@ -1,17 +1,14 @@
 -- Reply: what is known of an accepted one, and that what the code hands over makes its packet and its count of blocks.
 use mathlib.Core.Path.{◌≡◌, refl}
-use mathlib.Core.Bool.{Bool, true, false, not, ◌&&◌}
+use mathlib.Core.Bool.{true}
 use mathlib.Core.List.{List, [], ◌∷◌, ◌++◌}
 use Prim.Native.Nat.{ℕ, ◌+◌, ◌≤◌}
 use native.Mathlib.Omega.{arith}
 use borrow.Author.Tests.{ltb-false, not-false}
-use lib.Dec.{eqb, ltb}
 use lib.ListN.{length}
-use Rattle.octets.specs.Checks.{Row, ◌when◌, refusal}
+use Rattle.octets.specs.Checks.{◌when◌}
 use Rattle.octets.specs.Little.{octets}
 use Rattle.octets.proofs.CheckLaws.{passed-of}
-use Rattle.state.specs.declared.transitions.Phase.TheVariants.{Open}
-use Rattle.view.specs.Counted.{no_such}
 use Rattle.view.specs.Phases.{is_open, owes}
 use Rattle.view.specs.declared.View.{View}
 use Rattle.view.proofs.CountedLaws.{such}
@@ -42,15 +39,6 @@ replies v h n m k e =
       payload = ltb-false 16384 m more.1.1.0;
       room = ltb-false k (32 + m) more.1.1.1.0;
     }
-
--- the rows about lengths, and what is left of the table where there is such a host and its connection is open
-abbrev pub length_rows : ℕ → ℕ → List Row
-length_rows m k = 30 when ltb 16384 m ∷ 7 when ltb k (32 + m) ∷ []
-
-pub open-rows : (v : View) (h n m k last : ℕ) (owed t : Bool) → v.good ≡ true → no_such h v.hosts ≡ false → v.held.phase ≡ Open last owed
-    → (owed && eqb last n) ≡ t → reply_refusal v h n m k ≡ refusal (29 when not t ∷ length_rows m k)
-unfolding reply_refusal
-open-rows v h n m k last owed t g s e o = rw (g, s, e, o)
 
 module _ (key : List ℕ) (n : ℕ) (payload room : List ℕ) (h : 32 + length payload ≤ length room) where
   -- before the payload stand vector and tag, and 4 bytes of the text

@@ -1,4 +1,5 @@
 -- Request: the search for a name, place by place, what the form's checks tell once they have passed, and the call's end in each case.
+use Rattle.std.specs.Prelude.{Some, None}
 use mathlib.Core.Path.{◌≡◌, refl, sym, ◌∙◌}
 use mathlib.Core.Logic.{◌≢◌}
 use mathlib.Core.Bool.{Bool, true, false, not, true≢false}
@@ -19,8 +20,7 @@ use Rattle.state.specs.Flat.{with_record}
 use Rattle.state.specs.Records.{requested}
 use Rattle.state.specs.Sound.{sound_rights}
 use Rattle.gateway.specs.Common.{plain}
-use Rattle.gateway.specs.Request.{name_at, found_from, found, asked, form_refusal, request_refusal, requesting, request_room}
-use Rattle.gateway.specs.declared.requesting.Requested.{Requested}
+use Rattle.gateway.specs.Request.{name_at, found_from, found, host_of, asked, form_refusal, request_refusal, Requested, requesting, request_room}
 
 -- the search among n hosts has come to place i
 module _ (r : Rights) (names name : List ℕ) (n i : ℕ) (l : i < n) where
@@ -49,6 +49,15 @@ formed r p fresh e =
     let d = row-passed 20 (not (between 21 276 (length p))) _ refl b.1 in
     let l : 21 ≤ length p = leb-true 21 (length p) (and_left _ _ (not-false _ d.0)) in
     (eqb-true (length fresh) 16 (not-false _ b.0), omega arith)
+
+-- where there is no host the number is 0, and above it where there is one
+pub no-host : (n : ℕ) → host_of n ≡ None → n ≡ 0
+no-host zero e = refl
+no-host (suc n) e = cc
+
+pub some-host : (n h : ℕ) → host_of n ≡ Some h → (h ≡ n) × (h ≢ 0)
+some-host zero h e = cc
+some-host (suc n) h e = let q : h ≡ suc n = cc in (q, λ z. omega arith)
 
 -- the ends of a request; h is the number of the host that is asked for
 module _ (r : Rights) (s : Records) (names p fresh room : List ℕ) where

@@ -16,8 +16,7 @@ use Rattle.view.specs.Phases.{is_waiting}
 use Rattle.view.specs.View.{see}
 use Rattle.view.specs.declared.View.{View}
 use Rattle.fields.specs.Command.{open_lead}
-use Rattle.gateway.specs.Common.{moved}
-use Rattle.gateway.specs.declared.proving.Proved.{Proved}
+use Rattle.gateway.specs.Common.{moved, Changed}
 
 -- the two challenges of a proof
 abbrev pub second : List ℕ → List ℕ
@@ -41,7 +40,7 @@ abbrev pub key_blocks : List ℕ → List Enciphered
 key_blocks p = record { key = second p; block = third p } ∷ []
 
 -- the answer, and the records after the call
-unfoldable pub proving : Rights → Records → ℕ → List ℕ → ℕ → Proved
+unfoldable pub proving : Rights → Records → ℕ → List ℕ → ℕ → Changed
 proving r s h p room = record {
   answer = answer (proof_refusal (see r s h) h p room) (key_blocks p);
   records = moved (proof_refusal (see r s h) h p room) s h (proved (cipher (second p) (third p)));

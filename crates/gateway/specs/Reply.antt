@@ -15,8 +15,7 @@ use Rattle.view.specs.View.{see}
 use Rattle.view.specs.declared.View.{View}
 use Rattle.fields.specs.Reply.{reply_vector, reply_lead}
 use Rattle.packet.specs.Sealed.{sealed_packet}
-use Rattle.gateway.specs.Common.{moved}
-use Rattle.gateway.specs.declared.replying.Replied.{Replied}
+use Rattle.gateway.specs.Common.{moved, Changed}
 
 -- the reply for number n to host h, with a payload of m bytes
 unfoldable pub reply_refusal : View → ℕ → ℕ → ℕ → ℕ → ℕ
@@ -40,7 +39,7 @@ unfoldable pub reply_blocks : List ℕ → ℕ → List ℕ → List Enciphered
 reply_blocks key n payload = under_key key (seal (cipher key) (reply_vector n) [] (reply_text n payload)).enciphered
 
 -- the answer, and the records after the call
-unfoldable pub replying : Rights → Records → ℕ → ℕ → List ℕ → ℕ → Replied
+unfoldable pub replying : Rights → Records → ℕ → ℕ → List ℕ → ℕ → Changed
 replying r s h n payload room = record {
   answer = answer (reply_refusal (see r s h) h n (length payload) room) (reply_blocks (see r s h).held.key n payload);
   records = moved (reply_refusal (see r s h) h n (length payload) room) s h (replied (see r s h).held);

@@ -1,6 +1,9 @@
 // The server's calls, by value over the parts of the state that they read (document 01, "Handshake", "Command packet", "Numbers of
 // refusal"). Each judges a view of the state by its table of refusals, in the document's order, and acts once the last check has passed: a
-// refusal hands the parts back as they were and writes nothing. Every call takes all inputs, a state that nobody loaded too.
+// refusal hands nothing back but why, and writes nothing. Every call takes all inputs, a state that nobody loaded too.
+//
+// Rights, records and room stay parameters of their own, since a refusal hands none back and a pair would be copied; host and view too, since the
+// tables of document 01 are over both.
 
 #![tactic(auto)]
 
@@ -12,28 +15,34 @@ mod requesting;
 mod revoking;
 
 ghost use Rattle.std.specs.Prelude.{◌≡◌};
-ghost use Rattle.gateway.specs.Common.{plain};
+ghost use Rattle.refusal.specs.Numbers.{number_of};
+ghost use Rattle.gateway.specs.Close.{close_refusal};
 
-pub use closing::{Closed, close};
+pub use closing::close;
 pub use commanding::{Commanded, command};
-pub use proving::{Proved, proof};
-pub use replying::{Replied, reply};
+pub use proving::proof;
+use refusal::Refusal;
+pub use replying::reply;
 pub use requesting::{Requested, request};
-pub use revoking::{Revoked, revoke};
+pub use revoking::revoke;
 
-// Numbers of refusal that more than one call gives.
-pub(crate) const UNSOUND: u8 = 39;
+// What an accepted call hands back: how many blocks were counted, and the part of the state that it changed.
+#[derive(Clone, Copy, Debug, PartialEq, Eq)]
+pub struct Done<T> {
+    pub blocks: usize,
+    pub after: T,
+}
 
-pub(crate) const NO_HOST: u8 = 4;
-
-pub(crate) const ROOM_SHORT: u8 = 7;
-
-// An answer of a number alone.
-pub(crate) fn plain_answer(number: u8) -> capability::Answer
-    ensures { result ≡ plain number }
+// What each call about a host judges first: the state, and whether there is such a host.
+#[tactic(auto, unfolding(crate::specs::Close::close_refusal))]
+pub(crate) fn judge_host(v: view::View, host: u16) -> Result<(), Refusal>
+    ensures { number_of result ≡ close_refusal v host }
 {
-    capability::Answer {
-        number: number,
-        blocks: 0,
+    if !v.good {
+        return Err(Refusal::Unsound);
     }
+    if view::no_such(host, v.hosts) {
+        return Err(Refusal::NoHost);
+    }
+    Ok(())
 }

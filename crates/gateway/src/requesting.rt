@@ -1,138 +1,90 @@
 // Request: the first step of the handshake.
-ghost use Rattle.std.specs.Prelude.{◌≡◌, ◌++◌, ◌-◌, ◌≤◌, length};
-ghost use Rattle.octets.specs.Room.{part, placed};
-ghost use Rattle.state.specs.Flat.{with_record};
-ghost use Rattle.state.specs.Records.{requested};
-ghost use Rattle.gateway.specs.Common.{plain};
-ghost use Rattle.gateway.specs.Request.{name_at, found, form_refusal, requesting, request_room};
+ghost use Rattle.std.specs.Prelude.{◌≡◌, length};
+ghost use Rattle.refusal.specs.Numbers.{number_of};
+ghost use Rattle.gateway.specs.Request.{name_at, found, host_of, form_refusal, requested_in, requesting, request_room};
 
-use crate::{ROOM_SHORT, UNSOUND, plain_answer};
+use octets::Little;
+use refusal::{Refusal, Refused};
+use state::{Records, Rights};
 
-const LENGTH_WRONG: u8 = 28;
-
-const REQUEST_LENGTH: u8 = 20;
-
-const VERSION: u8 = 21;
-
-const NAME_LENGTH: u8 = 22;
-
-const NO_NAME: u8 = 23;
-
-// What a request answers, the number of the host named (0 on a refusal), and the records after it.
+// What an accepted request hands back: how many blocks were counted, the number of the host named, and the records after it.
 #[derive(Clone, Copy)]
 pub struct Requested {
-    pub answer: capability::Answer,
+    pub blocks: usize,
     pub host: u16,
-    pub records: state::Records,
+    pub records: Records,
 }
 
-fn name_at(rights: state::Rights, names: &[u8], i: u16) -> &[u8]
-    ensures { result.now ≡ name_at rights names.now i }
+// The name of the host at place i.
+#[tactic(auto, unfolding(crate::specs::Request::name_at))]
+fn name_at<'a>(rights: &Rights, names: &'a [u8], i: u16) -> &'a [u8]
+    ensures { result.now ≡ name_at rights.now names.now i }
 {
-    let sizes = rights.sizes;
-    let i = i as usize;
-    let size = if i < 32 { sizes[i] } else { 0 };
-    octets::part(names, i * 256, size as usize)
+    let i = usize::from(i);
+    let size = rights.sizes.get(i).copied().unwrap_or(0);
+    octets::part(names, i * 256, usize::from(size))
 }
 
-// The number of the lowest host of that name; 0 if there is none. Each name up to it is compared in full.
-fn find(rights: state::Rights, names: &[u8], name: &[u8]) -> u16
-    ensures { result ≡ found rights names.now name.now }
+// The number of the lowest host of that name. Each name up to it is compared in full. A `for`: of `find(..).map(|i| i + 1)` it stayed open
+// that `i + 1` fits.
+fn find(rights: &Rights, names: &[u8], name: &[u8]) -> Option<u16>
+    ensures { result ≡ host_of (found rights.now names.now name.now) }
 {
-    let n = rights.hosts;
-    let mut i: u16 = 0;
-    while i < n {
+    for i in 0..rights.hosts {
         if octets::equal(name_at(rights, names, i), name) {
-            return i + 1;
+            return Some(i + 1);
         }
-        i += 1;
     }
-    0
+    None
 }
 
 // What is judged before the name: 39, 28, 20, 21, 22.
-fn judge(rights: state::Rights, request: &[u8], fresh: &[u8]) -> u8
-    ensures { result ≡ form_refusal rights request.now fresh.now }
+#[tactic(auto, unfolding(octets::specs::Little::number, crate::specs::Request::form_refusal))]
+fn judge(rights: Rights, request: &[u8], fresh: &[u8]) -> Result<(), Refusal>
+    ensures { number_of result ≡ form_refusal rights request.now fresh.now }
 {
     if !state::sound(rights) {
-        return UNSOUND;
+        return Err(Refusal::Unsound);
     }
     if fresh.len() != 16 {
-        return LENGTH_WRONG;
+        return Err(Refusal::LengthWrong);
     }
-    let n = request.len();
-    if !octets::between(21, 276, n) {
-        return REQUEST_LENGTH;
+    if !octets::between(21, 276, request.len()) {
+        return Err(Refusal::RequestLength);
     }
-    if octets::u16_at(request, 0) != 1 {
-        return VERSION;
+    if u16::at(request, 0) != 1 {
+        return Err(Refusal::Version);
     }
-    if octets::u16_at(request, 2) as usize != n - 20 {
-        return NAME_LENGTH;
+    if usize::from(u16::at(request, 2)) != request.len() - 20 {
+        return Err(Refusal::NameLength);
     }
-    0
+    Ok(())
 }
 
-fn refused(number: u8, records: state::Records) -> Requested
-    ensures { result ≡ record { answer = plain number; host = 0; records = records } }
-{
-    let said = plain_answer(number);
-    Requested {
-        answer: said,
-        host: 0,
-        records: records,
-    }
-}
-
-// The two challenges at the start of the room, and the host's record waiting.
-fn grant(
-    records: state::Records,
-    host: u16,
-    request: &[u8],
-    fresh: &[u8],
-    room: &mut [u8],
-) -> Requested
-    requires { (length fresh.now ≡ 16) × (20 ≤ length request.now) × (1 ≤ host) × (32 ≤ length room.old) }
-    ensures { (result ≡ record { answer = plain 0; host = host; records = with_record records (host - 1) (requested fresh.now) })
-        × (room.new ≡ placed room.old 0 (part request.now 4 16 ++ fresh.now)) }
-{
-    octets::put(room, 0, octets::part(request, 4, 16));
-    octets::put(room, 16, fresh);
-    let at = host as usize - 1;
-    let old = state::record_at(records, at);
-    let challenge = octets::sixteen(fresh, 0);
-    let waiting = old.request(challenge);
-    let next = state::with_record(records, at, waiting);
-    let said = plain_answer(0);
-    Requested {
-        answer: said,
-        host: host,
-        records: next,
-    }
-}
-
-// A host asks for a connection: its record waits for the proof of the fresh challenge.
+// A host asks for a connection: its record waits for the proof of the fresh challenge. The room gets the two challenges.
 pub fn request(
-    rights: state::Rights,
-    records: state::Records,
+    rights: Rights,
+    records: Records,
     names: &[u8],
     request: &[u8],
     fresh: &[u8],
     room: &mut [u8],
-) -> Requested
-    ensures { (result ≡ requesting rights records names.now request.now fresh.now (length room.old))
+) -> Result<Requested, Refused>
+    ensures { (requested_in records result ≡ requesting rights records names.now request.now fresh.now (length room.old))
         × (room.new ≡ request_room rights names.now request.now fresh.now room.old) }
 {
-    let early = judge(rights, request, fresh);
-    if early != 0 {
-        return refused(early, records);
-    }
-    let host = find(rights, names, &request[20..]);
-    if host == 0 {
-        return refused(NO_NAME, records);
-    }
+    judge(rights, request, fresh)?;
+    let host = find(&rights, names, &request[20..]).ok_or(Refusal::NoName)?;
     if room.len() < 32 {
-        return refused(ROOM_SHORT, records);
+        return Err(Refusal::RoomShort.into());
     }
-    grant(records, host, request, fresh, room)
+    octets::put(room, 0, octets::part(request, 4, 16));
+    octets::put(room, 16, fresh);
+    let at = usize::from(host) - 1;
+    let waiting = state::record_at(records, at).request(octets::bytes_at(fresh, 0));
+    Ok(Requested {
+        blocks: 0,
+        host,
+        records: state::with_record(records, at, waiting),
+    })
 }

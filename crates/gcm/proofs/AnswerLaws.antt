@@ -1,7 +1,8 @@
 -- What stands between the answers and GCM itself: a prepared key and its subkey do what the key does; a text that was copied
--- to the start of a room is what is worked on; and the answer where the room holds the text, and where it doesn't.
+-- to the start of a room is what is worked on; the answer where the room holds the text, and where
+-- it doesn't; and that it is settled by what is read out of it.
 use mathlib.Core.Path.{◌≡◌, refl, sym, ap, ap₂, ◌∙◌}
-use mathlib.Core.Bool.{Bool, true, false}
+use mathlib.Core.Bool.{Bool, true, false, false≢true}
 use mathlib.Core.List.{List, ◌∷◌, ◌++◌}
 use Prim.Native.Nat.{ℕ, suc, ◌+◌, ◌≤◌, ◌<◌}
 use native.Mathlib.Omega.{arith}
@@ -18,9 +19,11 @@ use Rattle.aes.proofs.CipherLaws.{cipher-length}
 use Rattle.ghash.specs.Ghash.{blocks_in}
 use Rattle.gcm.specs.Gctr.{Out, inc32, gctr}
 use Rattle.gcm.specs.Gcm.{zeros, subkey, j0, tag_of, Sealed, seal, Opened, open_if, open_under, open'}
-use Rattle.gcm.specs.Answers.{sealing, room_sealed, opening, room_opened}
-use Rattle.gcm.specs.declared.Sealing.{Sealing}
-use Rattle.gcm.specs.declared.Opening.TheVariants.{Short, Fail, Plain}
+use Rattle.gcm.specs.Answers.{Sealing, Short, Fail, Plain, sealing, sealed_in, room_sealed, opening, opened_in, room_opened}
+use Rattle.gcm.specs.declared.Sealed as Handed
+use Rattle.gcm.specs.declared.Unopened.{Unopened}
+use Rattle.gcm.specs.declared.Unopened.TheVariants as Why
+use Rattle.std.specs.Prelude.{Option, None, Some, Result, Ok, Err}
 use Rattle.gcm.proofs.GctrLaws.{gctr-length, gctr-count}
 use Rattle.gcm.proofs.GcmLaws.{tag-count, seal-count, seal-length}
 
@@ -113,3 +116,21 @@ module _ (text room : List ℕ) (h : length room < length text) where
   pub room-unopened : (o : Opened) → room ≡ room_opened (fits text room) o room
   unfolding room_opened
   room-unopened o = sym (ap (λ (t : Bool). room_opened t o room) short)
+
+-- what is read out of an answer settles the answer
+pub sealed_in-one : (x y : Option Handed.Sealed) → sealed_in x ≡ sealed_in y → x ≡ y
+sealed_in-one (Some s) (Some r) e = ap (λ (z : Sealing). Some (record { tag = z.tag; blocks = z.blocks })) e
+sealed_in-one (Some s) None e = absurd (false≢true (sym (ap (λ (z : Sealing). z.sealed) e)))
+sealed_in-one None (Some r) e = absurd (false≢true (ap (λ (z : Sealing). z.sealed) e))
+sealed_in-one None None e = refl
+
+pub opened_in-one : (x y : Result ℕ Unopened) → opened_in x ≡ opened_in y → x ≡ y
+opened_in-one (Ok n) (Ok m) e = cc
+opened_in-one (Ok n) (Err Why.Short) e = cc
+opened_in-one (Ok n) (Err (Why.TagWrong m)) e = cc
+opened_in-one (Err Why.Short) (Ok m) e = cc
+opened_in-one (Err Why.Short) (Err Why.Short) e = refl
+opened_in-one (Err Why.Short) (Err (Why.TagWrong m)) e = cc
+opened_in-one (Err (Why.TagWrong n)) (Ok m) e = cc
+opened_in-one (Err (Why.TagWrong n)) (Err Why.Short) e = cc
+opened_in-one (Err (Why.TagWrong n)) (Err (Why.TagWrong m)) e = cc

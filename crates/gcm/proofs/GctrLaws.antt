@@ -9,12 +9,13 @@ use native.Mathlib.Omega.{arith}
 use lib.ListN.{length, take, drop, length-append, length-drop, drop_of_length-le}
 use lib.Seq.{take_at, drop_at, drop-append-add, drop-drop, drop-nil}
 use Rattle.octets.specs.Room.{over}
+use borrow.Rule.Slice.PartMut.{put_mid}
 use Rattle.ghash.specs.Bytes.{num_at, bytes_of}
 use Rattle.ghash.specs.Ghash.{blocks_in}
 use Rattle.ghash.proofs.HashLaws.{num-bytes}
 use Rattle.gcm.specs.Gctr.{inc32, counters, stream, xors, gctr}
 use Rattle.gcm.specs.Gcm.{counter}
-use Rattle.gcm.proofs.XorsLaws.{length-xors, xors-append, xors-parts, xors-nil, xors-twice}
+use Rattle.gcm.proofs.XorsLaws.{length-xors, xors-append, xors-take, xors-parts, xors-nil, xors-twice}
 
 -- ---- the counters
 
@@ -144,6 +145,21 @@ module _ (ciph : List ℕ → List ℕ) (ciph-16 : (b : List ℕ) → length (ci
         ∙ ap (stream ciph) (counters-append iv e i 1 n h)
         ∙ stream-append (counters (counter iv n) i) (counter iv ((n + i) % 2 ^ 32) ∷ [])
         ∙ ap (λ (k : List ℕ). stream ciph (counters (counter iv n) i) ++ k) (append-nil ks)
+
+    -- the block is added to what stands there: as much as a block, or as there is
+    pub done_mid : (k : ℕ) → k ≡ min (length x) (16 * i + 16) - 16 * i
+        → put_mid (16 * i) k (done ciph (counter iv n) x i) (xors (take k (drop (16 * i) (done ciph (counter iv n) x i))) ks) ≡ done ciph (counter iv n) x (suc i)
+    done_mid k q =
+        let X : List ℕ = drop (16 * i) x in
+        let enough : min (length X) (length ks) ≤ k = omega (arith, length-drop (16 * i) x, ciph-16 (counter iv ((n + i) % 2 ^ 32))) in
+        let c : 16 * i + k ≡ min (length x) (16 * suc i) = omega arith in
+        ap₂ (λ (p r : List ℕ). p ++ (xors (take k r) ks ++ drop k r)) (take_at before X (16 * i) long-before) rest
+        ∙ ap₂ (λ (y r : List ℕ). before ++ (y ++ r)) (xors-take X ks k enough) (drop-drop k (16 * i) x ∙ ap (λ (m : ℕ). drop m x) c ∙ drop-capped x (16 * suc i))
+        ∙ sym (append_assoc before (xors X ks) (drop (16 * suc i) x))
+        ∙ ap (λ (b : List ℕ). b ++ drop (16 * suc i) x)
+        (ap (λ (m : ℕ). before ++ xors (drop m x) ks) (sym long-stream)
+        ∙ sym (xors-append x (stream ciph (counters (counter iv n) i)) ks)
+        ∙ ap (xors x) (sym stream-more))
 
     -- what is left after the block: nothing, where the block ends the text
     left : drop (16 * i + length (xors (drop (16 * i) x) ks)) (done ciph (counter iv n) x i) ≡ drop (16 * suc i) x

@@ -1,11 +1,34 @@
 -- What `seal` and `open` answer and leave in the lent room, by whether the room holds the text (`fits` of octets): where it
 -- doesn't, nothing is enciphered and nothing is written. And document 01's numbers for what they answer.
-use Rattle.std.specs.Prelude.{ℕ, Bool, true, false, List, length}
+use Rattle.std.specs.Prelude.{ℕ, Bool, true, false, List, length, Option, None, Some, Result, Ok, Err}
 use Rattle.octets.specs.Room.{at_start}
 use Rattle.gcm.specs.Gcm.{zeros, Sealed, Opened, fail, plain}
-use Rattle.gcm.specs.declared.Sealing.{Sealing}
-use Rattle.gcm.specs.declared.Opening.{Opening}
-use Rattle.gcm.specs.declared.Opening.TheVariants.{Short, Fail, Plain}
+use Rattle.gcm.specs.declared.Sealed as Handed
+use Rattle.gcm.specs.declared.Unopened.{Unopened}
+use Rattle.gcm.specs.declared.Unopened.TheVariants as Why
+
+-- what `seal` answers: whether the room holds the text; the tag and how many blocks were enciphered, 0s where it doesn't
+pub record Sealing : Type 0 where
+  pub sealed : Bool
+  pub tag : List ℕ
+  pub blocks : ℕ
+
+-- what `open` answers: the room is shorter than the text; or the tag is wrong; or the text was opened. With the number of
+-- blocks enciphered
+pub data Opening : Type 0 where
+  Short : Opening
+  Fail : ℕ → Opening
+  Plain : ℕ → Opening
+
+-- read out of what the calls hand back
+abbrev pub sealed_in : Option Handed.Sealed → Sealing
+sealed_in (Some s) = record { sealed = true; tag = s.tag; blocks = s.blocks }
+sealed_in None = record { sealed = false; tag = zeros; blocks = 0 }
+
+abbrev pub opened_in : Result ℕ Unopened → Opening
+opened_in (Ok n) = Plain n
+opened_in (Err Why.Short) = Short
+opened_in (Err (Why.TagWrong n)) = Fail n
 
 unfoldable pub sealing : Bool → Sealed → Sealing
 sealing true s = record { sealed = true; tag = s.tag; blocks = length s.enciphered }

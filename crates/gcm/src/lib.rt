@@ -1,7 +1,8 @@
 // GCM of SP 800-38D over AES-128, for 96-bit vectors and 128-bit tags.
 //
 // `seal` and `open` take a key. Below them stands the work under a prepared key and a given subkey, for whoever keeps these:
-// `seal_in_place`, `authentic` and `crypt`. Every function takes all inputs, of every length.
+// `seal_in_place`, `authentic` and `crypt`. Every function takes all inputs, of every length. The prepared key p and the subkey h stay
+// two parameters of the public ones, whose signatures are promised.
 
 #![tactic(auto)]
 
@@ -11,27 +12,24 @@ ghost use Rattle.std.specs.Prelude.{◌≡◌};
 ghost use Rattle.octets.specs.Room.{fits};
 ghost use Rattle.octets.specs.Same.{same};
 ghost use Rattle.aes.specs.Cipher.{cipher};
-ghost use Rattle.aes.specs.Prepared.{under};
-ghost use Rattle.gcm.specs.Gcm.{tag_of, seal_under, seal, open'};
-ghost use Rattle.gcm.specs.Answers.{sealing, room_sealed, opening, room_opened};
+ghost use Rattle.aes.specs.Prepared.{prepared, under};
+ghost use Rattle.gcm.specs.Gcm.{subkey, tag_of, seal_under, seal, open'};
+ghost use Rattle.gcm.specs.Answers.{sealing, sealed_in, room_sealed, opening, opened_in, room_opened};
 
 pub use gctr::{blocks_in, crypt};
 
-// What `seal` answers: whether the room holds the text; the tag and how many blocks were enciphered, 0s where it doesn't.
-#[derive(Clone, Copy)]
-pub struct Sealing {
-    pub sealed: bool,
+// A sealed text: its tag, and how many blocks were enciphered.
+#[derive(Clone, Copy, Debug, PartialEq, Eq)]
+pub struct Sealed {
     pub tag: [u8; 16],
     pub blocks: usize,
 }
 
-// What `open` answers: the room is shorter than the text; or the tag is wrong; or the text was opened. With the number of
-// blocks enciphered.
-#[derive(Clone, Copy)]
-pub enum Opening {
+// Why a text wasn't opened: the room is shorter than the text; or the tag is wrong, with the number of blocks enciphered.
+#[derive(Clone, Copy, Debug, PartialEq, Eq)]
+pub enum Unopened {
     Short,
-    Fail { blocks: usize },
-    Plain { blocks: usize },
+    TagWrong { blocks: usize },
 }
 
 // The tag of additional data and ciphertext under the subkey h. One block is enciphered.
@@ -74,31 +72,36 @@ pub fn seal_in_place(
     tag(p, h, iv, a, room)
 }
 
-// GCM-AE: the ciphertext at the start of the room, and nothing after it.
-pub fn seal(key: [u8; 16], iv: [u8; 12], a: &[u8], text: &[u8], room: &mut [u8]) -> Sealing
-    ensures { (result ≡ sealing (fits text.now room.old) (seal (cipher key) iv a.now text.now))
+// A key made ready: prepared for its blocks, and its subkey. One block is enciphered.
+fn keyed(key: [u8; 16]) -> (aes::Prepared, [u8; 16])
+    ensures { (result.0 ≡ prepared key) × (result.1 ≡ subkey (under result.0)) }
+{
+    let p = aes::prepare(key);
+    let h = aes::encrypt_prepared(&p, [0; 16]);
+    (p, h)
+}
+
+// GCM-AE: the ciphertext at the start of the room, and nothing after it; None where the room is shorter than the text.
+pub fn seal(key: [u8; 16], iv: [u8; 12], a: &[u8], text: &[u8], room: &mut [u8]) -> Option<Sealed>
+    ensures { (sealed_in result ≡ sealing (fits text.now room.old) (seal (cipher key) iv a.now text.now))
         × (room.new ≡ room_sealed (fits text.now room.old) (seal (cipher key) iv a.now text.now) room.old) }
 {
     let n = text.len();
     if room.len() < n {
-        return Sealing {
-            sealed: false,
-            tag: [0u8; 16],
-            blocks: 0,
-        };
+        return None;
     }
-    let p = aes::prepare(key);
-    let h = aes::encrypt_prepared(&p, [0u8; 16]);
-    octets::put(room, 0, text);
-    let t = seal_in_place(&p, h, iv, a, &mut room[..n]);
-    Sealing {
-        sealed: true,
-        tag: t,
+    let (p, h) = keyed(key);
+    let lent = &mut room[..n];
+    lent.copy_from_slice(text);
+    let tag = seal_in_place(&p, h, iv, a, lent);
+    Some(Sealed {
+        tag,
         blocks: blocks_in(n) + 2,
-    }
+    })
 }
 
-// GCM-AD: the tag is judged first; where it is right the text is written at the start of the room, and nothing after it.
+// GCM-AD: the tag is judged first; where it is right the text is written at the start of the room, and nothing after it. The
+// result is the number of blocks enciphered.
 pub fn open(
     key: [u8; 16],
     iv: [u8; 12],
@@ -106,20 +109,19 @@ pub fn open(
     text: &[u8],
     t: [u8; 16],
     room: &mut [u8],
-) -> Opening
-    ensures { (result ≡ opening (fits text.now room.old) (open' (cipher key) iv a.now text.now t))
+) -> Result<usize, Unopened>
+    ensures { (opened_in result ≡ opening (fits text.now room.old) (open' (cipher key) iv a.now text.now t))
         × (room.new ≡ room_opened (fits text.now room.old) (open' (cipher key) iv a.now text.now t) room.old) }
 {
     let n = text.len();
     if room.len() < n {
-        return Opening::Short;
+        return Err(Unopened::Short);
     }
-    let p = aes::prepare(key);
-    let h = aes::encrypt_prepared(&p, [0u8; 16]);
+    let (p, h) = keyed(key);
     if !authentic(&p, h, iv, a, text, t) {
-        return Opening::Fail { blocks: 2 };
+        return Err(Unopened::TagWrong { blocks: 2 });
     }
-    octets::put(room, 0, text);
-    let b = crypt(&p, iv, 2, &mut room[..n]);
-    Opening::Plain { blocks: b + 2 }
+    let lent = &mut room[..n];
+    lent.copy_from_slice(text);
+    Ok(crypt(&p, iv, 2, lent) + 2)
 }

@@ -4,9 +4,10 @@ use mathlib.Core.Path.{◌≡◌, refl, sym, ap, ap₂, ◌∙◌}
 use Prim.Native.Nat.{ℕ, zero, suc, ◌+◌, ◌-◌, ◌*◌, ◌/◌, ◌%◌, ◌^◌, ◌≤◌, ◌<◌}
 use native.Mathlib.Nat.{add-zero, add-suc, add_comm, mul-one, mul_assoc}
 use native.Mathlib.Omega.{arith}
-use lib.Bits.{bit_xor, differ, xor_shr, xor_zero_l, xor_zero_r, xor_self, shifted_half, shifted_even}
+use lib.Bits.{bit_xor, xor_assoc, differ, xor_shr, xor_zero_l, xor_zero_r, xor_self, shifted_half, shifted_even}
 use lib.Pow.{pow-add, shl-shr, shr-shr, high, low, field, mod-mod-pow}
-use Rattle.octets.proofs.XorLaws.{xor_low, xor_assoc, xor-swap}
+use Rattle.std.proofs.lemmas.Nat.{div-add-mod'}
+use Rattle.octets.proofs.XorLaws.{xor_low, xor-swap}
 use Rattle.ghash.specs.Field.{r_128, bit, by_bit, next_z, next_v, v_i, z_i}
 
 -- ---- multiplying by x
@@ -84,7 +85,7 @@ low_run h l j k hl hk =
     ∙ field (h * 2 ^ 64 + l) j k
 
 -- bit i of x << k is bit k + i of x
-bit_shifted : (x k i : ℕ) → k + i ≤ 127 → bit (x * 2 ^ k) i ≡ bit x (k + i)
+pub bit_shifted : (x k i : ℕ) → k + i ≤ 127 → bit (x * 2 ^ k) i ≡ bit x (k + i)
 unfolding bit
 bit_shifted x k i h =
     let e : 127 - i ≡ k + (127 - (k + i)) = omega arith in
@@ -92,9 +93,21 @@ bit_shifted x k i h =
     ∙ ap (λ (n : ℕ). n % 2) (sym (shr-shr (x * 2 ^ k) k (127 - (k + i))))
     ∙ ap (λ (n : ℕ). n / 2 ^ (127 - (k + i)) % 2) (shl-shr x k)
 
--- bit k of a word that was doubled i times
-doubled-bit : (n i k : ℕ) → i ≤ k → k < 64 → n * 2 ^ i % 2 ^ 64 / 2 ^ k % 2 ≡ n / 2 ^ (k - i) % 2
+-- bit k of a block that was doubled i times
+pub doubled-bit : (n i k : ℕ) → i ≤ k → k < 128 → n * 2 ^ i % 2 ^ 128 / 2 ^ k % 2 ≡ n / 2 ^ (k - i) % 2
 doubled-bit n i k hi hk =
+    let e : 128 ≡ ((127 - k) + 1) + k = omega arith in
+    let f : k ≡ i + (k - i) = omega arith in
+    ap (λ (j : ℕ). n * 2 ^ i % 2 ^ j / 2 ^ k % 2) e
+    ∙ ap (λ (m : ℕ). m % 2) (field (n * 2 ^ i) ((127 - k) + 1) k)
+    ∙ mod-mod-pow (n * 2 ^ i / 2 ^ k) (127 - k) 1
+    ∙ ap (λ (j : ℕ). n * 2 ^ i / 2 ^ j % 2) f
+    ∙ ap (λ (m : ℕ). m % 2) (sym (shr-shr (n * 2 ^ i) i (k - i)))
+    ∙ ap (λ (m : ℕ). m / 2 ^ (k - i) % 2) (shl-shr n i)
+
+-- bit k of a word that was doubled i times
+doubled-word : (n i k : ℕ) → i ≤ k → k < 64 → n * 2 ^ i % 2 ^ 64 / 2 ^ k % 2 ≡ n / 2 ^ (k - i) % 2
+doubled-word n i k hi hk =
     let e : 64 ≡ ((63 - k) + 1) + k = omega arith in
     let f : k ≡ i + (k - i) = omega arith in
     ap (λ (j : ℕ). n * 2 ^ i % 2 ^ j / 2 ^ k % 2) e
@@ -109,7 +122,7 @@ pub high_bit : (h l k i : ℕ) → l < 2 ^ 64 → k + i < 64 → h * 2 ^ i % 2 ^
 unfolding bit
 high_bit h l k i hl hi =
     let e : 64 + ((63 - k) - i) ≡ 127 - (k + i) = omega arith in
-    doubled-bit h i (63 - k) (omega arith) (omega arith)
+    doubled-word h i (63 - k) (omega arith) (omega arith)
     ∙ high-run h l 2 ((63 - k) - i) hl
     ∙ ap (λ (j : ℕ). (h * 2 ^ 64 + l) / 2 ^ j % 2) e
     ∙ sym (bit_shifted (h * 2 ^ 64 + l) k i (omega arith))
@@ -118,7 +131,7 @@ pub low_bit : (h l k i : ℕ) → l < 2 ^ 64 → k + i < 64 → l * 2 ^ i % 2 ^ 
 unfolding bit
 low_bit h l k i hl hi =
     let e : (63 - k) - i ≡ 127 - ((64 + k) + i) = omega arith in
-    doubled-bit l i (63 - k) (omega arith) (omega arith)
+    doubled-word l i (63 - k) (omega arith) (omega arith)
     ∙ low_run h l 1 ((63 - k) - i) hl (omega arith)
     ∙ ap (λ (j : ℕ). (h * 2 ^ 64 + l) / 2 ^ j % 2) e
     ∙ sym (bit_shifted (h * 2 ^ 64 + l) (64 + k) i (omega arith))
@@ -173,14 +186,20 @@ bit-none x i hi =
     ∙ ap (λ (n : ℕ). n % 2) (shl-shr (x * 2 ^ suc i) (127 - i))
     ∙ shifted_even x i
 
--- where only the first 32 bits are set, the first 32 steps are all
+-- where only the first n bits are set, the first n steps are all
+pub z_i-first : (x y n m : ℕ) → n + m ≡ 128 → x % 2 ^ m ≡ 0 → z_i x y 128 ≡ z_i x y n
+z_i-first x y n m e h =
+    let q : ℕ = x / 2 ^ m in
+    let d : x ≡ q * 2 ^ m = omega (arith, h, div-add-mod' x (2 ^ m)) in
+    let s : m + n ≡ 128 = omega arith in
+    let f : x * 2 ^ n ≡ q * 2 ^ 128 =
+    ap (λ (a : ℕ). a * 2 ^ n) d ∙ mul_assoc q (2 ^ m) (2 ^ n) ∙ ap (λ (a : ℕ). q * a) (sym (pow-add 2 m n) ∙ ap (λ (k : ℕ). 2 ^ k) s) in
+    ap (z_i x y) (sym e)
+    ∙ z_i-parts x y n m (omega arith)
+    ∙ ap (λ (z : ℕ). bit_xor (z_i x y n) (v_i z n)) (ap (λ (a : ℕ). z_i a y m) f ∙ z_i-none (q * 2 ^ 128) y m (λ i hi. bit-none q i (omega arith)))
+    ∙ ap (bit_xor (z_i x y n)) (v_i-zero n)
+    ∙ xor_zero_r (z_i x y n)
+
+-- of 32 bits
 pub z_i-short : (x y : ℕ) → x % 2 ^ 96 ≡ 0 → z_i x y 128 ≡ z_i (x * 2 ^ 0) y 32
-z_i-short x y h =
-    let m : ℕ = x / 2 ^ 96 in
-    let e : x ≡ m * 2 ^ 96 = omega arith in
-    let f : x * 2 ^ 32 ≡ m * 2 ^ 128 = ap (λ (n : ℕ). n * 2 ^ 32) e ∙ mul_assoc m (2 ^ 96) (2 ^ 32) in
-    z_i-parts x y 32 96 (omega arith)
-    ∙ ap (λ (q : ℕ). bit_xor (z_i x y 32) (v_i q 32)) (ap (λ (n : ℕ). z_i n y 96) f ∙ z_i-none (m * 2 ^ 128) y 96 (λ i hi. bit-none m i (omega arith)))
-    ∙ ap (bit_xor (z_i x y 32)) (v_i-zero 32)
-    ∙ xor_zero_r (z_i x y 32)
-    ∙ ap (λ (n : ℕ). z_i n y 32) (sym (mul-one x))
+z_i-short x y h = z_i-first x y 32 96 refl h ∙ ap (λ (n : ℕ). z_i n y 32) (sym (mul-one x))

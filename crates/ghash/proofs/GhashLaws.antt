@@ -1,46 +1,98 @@
--- Words, blocks and hashes out of their parts, as the code reads and hashes them: by computing `num_at`, and by induction on the blocks.
+-- Blocks and hashes out of their parts, as the code reads and hashes them: by computing `num_at`, and by induction on the bytes and the blocks.
 use mathlib.Core.Path.{◌≡◌, refl, sym, ap, ap₂, ◌∙◌}
-use mathlib.Core.List.{List, [], ◌∷◌, ◌++◌}
-use Prim.Native.Nat.{ℕ, zero, suc, ◌+◌, ◌-◌, ◌*◌, ◌/◌, ◌%◌, ◌^◌, ◌≤◌, ◌<◌}
-use native.Mathlib.Nat.{add-zero, add-suc, add_assoc, mul-one, mul-suc, mul_assoc}
-use native.Mathlib.Numerals.{add-one}
+use mathlib.Core.List.{List, [], ◌∷◌, ◌++◌, append-nil}
+use Prim.Native.Nat.{ℕ, zero, suc, min, ◌+◌, ◌*◌, ◌/◌, ◌%◌, ◌^◌, ◌≤◌, ◌<◌}
+use native.Mathlib.Nat.{zero-add, add-zero, add-suc, add_assoc, mul-one, mul-suc, mul_assoc}
 use native.Mathlib.Omega.{arith}
-use lib.ListN.{length, get_or, get_or-eq_default}
-use mir.Syntax.{w8}
-use mir.Val.{Fits}
+use lib.ListN.{length, get_or, length-append, get_or-append, get_or-eq_default}
+use lib.Seq.{get_or-append-add}
 use lib.Bits.{bit_xor, xor_zero_l}
 use lib.Pow.{pow-add}
+use Rattle.std.specs.Int.{w128, from_be_bytes, to_be_bytes}
+use Rattle.octets.specs.Room.{filled}
+use Rattle.ghash.proofs.Padding.{get_or-zeros}
 use Rattle.ghash.specs.Field.{dot}
 use Rattle.ghash.specs.Bytes.{num_at, bytes_of}
 use Rattle.ghash.specs.Ghash.{blocks_in, blocks_from, padded, ghash_from, ghash, len_bits, hash_of}
 
-pub word-num : (s : List ℕ) (at : ℕ)
-    → ((((get_or s at 0 * 256 + get_or s (at + 1) 0) * 65536 + (get_or s (at + 2) 0 * 256 + get_or s (at + 3) 0)) * 65536 + (get_or s (at + 4) 0 * 256 + get_or s (at + 5) 0)) * 65536 + (get_or s (at + 6) 0 * 256 + get_or s (at + 7) 0)) ≡ num_at s at 8
+-- ---- blocks out of bytes, and bytes out of a block
+
+-- what is read of two strings that have the same bytes there
+num-same : (s t : List ℕ) (at k : ℕ) → ((i : ℕ) → i < k → get_or s (at + i) 0 ≡ get_or t (at + i) 0) → num_at s at k ≡ num_at t at k
 unfolding num_at
-word-num s at = omega (arith, ap (λ (k : ℕ). get_or s k 0) (add-zero at))
+num-same s t at zero h = refl
+num-same s t at (suc k) h = ap₂ (λ (x y : ℕ). x * 256 + y) (num-same s t at k (λ i l. h i (omega arith))) (h k (omega arith))
 
--- eight bytes are below 256
-pub eight : (s : List ℕ) (at : ℕ) → ((i : ℕ) → Fits w8 (get_or s i 0))
-    → (get_or s at 0 < 256) × (get_or s (at + 1) 0 < 256) × (get_or s (at + 2) 0 < 256) × (get_or s (at + 3) 0 < 256) × (get_or s (at + 4) 0 < 256) × (get_or s (at + 5) 0 < 256) × (get_or s (at + 6) 0 < 256) × (get_or s (at + 7) 0 < 256)
-eight s at f = ((f at).fits, (f (at + 1)).fits, (f (at + 2)).fits, (f (at + 3)).fits, (f (at + 4)).fits, (f (at + 5)).fits, (f (at + 6)).fits, (f (at + 7)).fits)
+-- the 0s that fill up sixteen bytes are what `num_at` reads past the end
+get_or-filled : (k : ℕ) (s : List ℕ) (i : ℕ) → i < k → get_or (filled k s 0) i 0 ≡ get_or s i 0
+unfolding filled
+get_or-filled zero s i h = absurd (omega arith)
+get_or-filled (suc k) [] i h = get_or-zeros (suc k) i
+get_or-filled (suc k) (b ∷ s) zero h = refl
+get_or-filled (suc k) (b ∷ s) (suc i) h = get_or-filled k s i (omega arith)
 
-pub block-num : (s : List ℕ) (at : ℕ) → num_at s at 8 * 2 ^ 64 + num_at s (at + 8) 8 ≡ num_at s at 16
+pub num-filled : (s : List ℕ) → num_at (filled 16 s 0) 0 16 ≡ num_at s 0 16
+num-filled s = num-same (filled 16 s 0) s 0 16 (λ i l. rw (zero-add i) (get_or-filled 16 s i l))
+
+-- std's numbers and bytes, the highest first
+pub big_number : (s : List ℕ) → from_be_bytes w128 s ≡ num_at s 0 16
 unfolding num_at
-block-num s at = simp (add_assoc at 8) (omega arith)
+big_number s = omega arith
 
-module _ (h : ℕ) (s : List ℕ) (n i y : ℕ) where
-  pub absorb-step : i < n → ghash_from h y (blocks_from s i (n - i)) ≡ ghash_from h (dot (bit_xor y (num_at s (16 * i) 16)) h) (blocks_from s (i + 1) (n - (i + 1)))
-  unfolding blocks_from ghash_from
-  absorb-step l =
-      let e : n - i ≡ suc (n - (i + 1)) = omega arith in
-      ap (λ (k : ℕ). ghash_from h y (blocks_from s i k)) e
-      ∙ ap (λ (k : ℕ). ghash_from h (dot (bit_xor y (num_at s (16 * i) 16)) h) (blocks_from s k (n - (i + 1)))) (sym (add-one i))
+pub big_bytes : (n : ℕ) → to_be_bytes w128 n ≡ bytes_of n 16
+unfolding bytes_of
+big_bytes n = let e : n / 1 ≡ n = omega arith in rw e
 
-  pub absorb-done : n ≤ i → ghash_from h y (blocks_from s i (n - i)) ≡ y
-  unfolding blocks_from ghash_from
-  absorb-done l =
-      let e : n - i ≡ 0 = omega arith in
-      ap (λ (k : ℕ). ghash_from h y (blocks_from s i k)) e
+-- ---- the blocks of a string
+
+num-after : (x r : List ℕ) (at k : ℕ) → num_at (x ++ r) (length x + at) k ≡ num_at r at k
+unfolding num_at
+num-after x r at zero = refl
+num-after x r at (suc k) =
+    ap₂ (λ (a b : ℕ). a * 256 + b) (num-after x r at k) (ap (λ (i : ℕ). get_or (x ++ r) i 0) (add_assoc (length x) at k) ∙ get_or-append-add x r (at + k) 0)
+
+module _ (x r : List ℕ) (long : length x ≡ min 16 (length (x ++ r))) where
+  -- the part is sixteen bytes, or nothing is left after it
+  cut : (P : Type 0) → (length x ≡ 16 → P) → (r ≡ [] → P) → P
+  cut P f g = either r refl where
+    either : (l : List ℕ) → r ≡ l → P
+    either [] e = g e
+    either (b ∷ l) e = f (omega (arith, length-append x r, ap length e))
+
+  first-byte : (i : ℕ) → i < 16 → get_or (x ++ r) i 0 ≡ get_or x i 0
+  first-byte i h = cut _ (λ e. get_or-append x r 0 i (omega arith)) (λ e. rw (e, append-nil x))
+
+  next-blocks : (i n : ℕ) → length x ≡ 16 → blocks_from (x ++ r) (suc i) n ≡ blocks_from r i n
+  unfolding blocks_from
+  next-blocks i zero e = refl
+  next-blocks i (suc n) e =
+      let s : 16 * suc i ≡ length x + 16 * i = omega arith in
+      ap₂ (λ (a : ℕ) (l : List ℕ). a ∷ l) (ap (λ (j : ℕ). num_at (x ++ r) j 16) s ∙ num-after x r (16 * i) 16) (next-blocks (suc i) n e)
+
+  -- the first block, and the blocks of what is left
+  pub padded-part : 0 < length (x ++ r) → padded (x ++ r) ≡ num_at x 0 16 ∷ padded r
+  unfolding padded blocks_in blocks_from
+  padded-part h =
+      let n : ℕ = (length r + 15) / 16 in
+      let e : (length (x ++ r) + 15) / 16 ≡ suc n = cut _ (λ l. omega (arith, length-append x r)) (λ l. omega (arith, length-append x r, ap length l)) in
+      ap (blocks_from (x ++ r) 0) e
+      ∙ ap₂ (λ (a : ℕ) (l : List ℕ). a ∷ l)
+      (num-same (x ++ r) x 0 16 (λ i l. rw (zero-add i) (first-byte i l)))
+      (cut _ (λ l. next-blocks 0 n l) (λ l. rw l))
+
+pub padded-none : (s : List ℕ) → length s ≡ 0 → padded s ≡ []
+unfolding padded blocks_in blocks_from
+padded-none s h = ap (λ (n : ℕ). blocks_from s 0 ((n + 15) / 16)) h
+
+-- a block taken in
+pub absorb-part : (h y : ℕ) (x r : List ℕ) → length x ≡ min 16 (length (x ++ r)) → 0 < length (x ++ r)
+    → ghash_from h y (padded (x ++ r)) ≡ ghash_from h (dot (bit_xor y (num_at x 0 16)) h) (padded r)
+unfolding ghash_from
+absorb-part h y x r e l = ap (ghash_from h y) (padded-part x r e l)
+
+pub absorb-none : (h y : ℕ) (s : List ℕ) → length s ≡ 0 → ghash_from h y (padded s) ≡ y
+unfolding ghash_from
+absorb-none h y s e = ap (ghash_from h y) (padded-none s e)
 
 -- past the end of s each byte is 0
 num-end : (s : List ℕ) (k n : ℕ) → length s ≤ k → num_at s 0 (k + n) ≡ num_at s 0 k * 2 ^ (8 * n)
@@ -66,7 +118,7 @@ short-hash h s l m =
     let e : (length s + 15) / 16 ≡ 1 = omega arith in
     ap (λ (n : ℕ). ghash_from h 0 (blocks_from s 0 n)) e ∙ ap (λ (x : ℕ). dot x h) (xor_zero_l (num_at s 0 16))
 
-ghash-append : (h y : ℕ) (xs ys : List ℕ) → ghash_from h y (xs ++ ys) ≡ ghash_from h (ghash_from h y xs) ys
+pub ghash-append : (h y : ℕ) (xs ys : List ℕ) → ghash_from h y (xs ++ ys) ≡ ghash_from h (ghash_from h y xs) ys
 unfolding ghash_from
 ghash-append h y [] ys = refl
 ghash-append h y (x ∷ xs) ys = ghash-append h (dot (bit_xor y x) h) xs ys

@@ -8,7 +8,7 @@ use lib.ListN.{length, get_or, replicate, length-append, length-replicate}
 use Rattle.ghash.specs.Bytes.{num_at}
 use Rattle.ghash.specs.Ghash.{blocks_in, blocks_from, padded}
 
-get_or-zeros : (m i : ℕ) → ◌≡◌ {A = ℕ} (get_or (replicate m 0) i 0) 0
+pub get_or-zeros : (m i : ℕ) → ◌≡◌ {A = ℕ} (get_or (replicate m 0) i 0) 0
 get_or-zeros zero i = refl
 get_or-zeros (suc m) zero = refl
 get_or-zeros (suc m) (suc i) = get_or-zeros m i

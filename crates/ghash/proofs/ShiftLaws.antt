@@ -1,14 +1,14 @@
--- Multiplying by x^32 and by x^64 in one go: each bit that is shifted out brings back R, and together they bring back L, L >> 1,
--- L >> 2 and L >> 7. By induction on the number of steps, up to 120, and then in the two words of a block.
+-- Multiplying by x^32, and by x^64, in one go: each bit that is shifted out brings back R, and together they bring back L, L >> 1,
+-- L >> 2 and L >> 7. By induction on the number of steps, up to 120; then as the code shifts, and in two words of 64 bits.
 use mathlib.Core.Path.{◌≡◌, refl, sym, ap, ap₂, ◌∙◌}
 use Prim.Native.Nat.{ℕ, zero, suc, ◌+◌, ◌-◌, ◌*◌, ◌/◌, ◌%◌, ◌^◌, ◌≤◌, ◌<◌}
 use native.Mathlib.Nat.{add-zero, add-mul, mul_assoc, one-mul, zero-mul, div-one, pow-succ'}
 use native.Mathlib.Numerals.{add-one, one-add}
 use native.Mathlib.Omega.{arith}
-use lib.Bits.{bit_xor, xor_shr, xor_zero_r, xor_comm, xor_shifted, xor_block, xor_lt}
+use lib.Bits.{bit_xor, xor_assoc, xor_shr, xor_zero_r, xor_comm, xor_shifted, xor_block, xor_lt}
 use lib.Pow.{pow_pos, pow-lt, pow-add, shr-shr, mod-pow-add, high, low}
 use Rattle.ghash.specs.Field.{r_128, by_bit, v_i}
-use Rattle.octets.proofs.XorLaws.{xor_assoc, xor-swap}
+use Rattle.octets.proofs.XorLaws.{xor-swap}
 use Rattle.ghash.proofs.FieldLaws.{next-sum, v_i-xor, v_i-zero, v_i-first, v_i-even}
 
 -- L ⊕ (L >> 1) ⊕ (L >> 2) ⊕ (L >> 7)
@@ -89,6 +89,12 @@ v_i-back (suc k) n v e h =
     ∙ ap₂ bit_xor (shr-shr v 1 k ∙ ap (λ (j : ℕ). v / 2 ^ j) (one-add k))
     (back-digit a c n (omega arith) ∙ ap (λ (m : ℕ). back (m * 2 ^ n)) (sym (mod-pow-add v k 1) ∙ ap (λ (j : ℕ). v % 2 ^ j) (add-one k)))
 
+-- the code's shifts, times x^32
+pub x32-shifts : (v : ℕ) → bit_xor (v / 2 ^ 32) (back (v * 2 ^ 96 % 2 ^ 128)) ≡ v_i v 32
+x32-shifts v =
+    let e : v * 2 ^ 96 % 2 ^ 128 ≡ v % 2 ^ 32 * 2 ^ 96 = omega arith in
+    ap (λ (l : ℕ). bit_xor (v / 2 ^ 32) (back l)) e ∙ sym (v_i-back 32 96 v refl (omega arith))
+
 -- what 32 bits bring back ends in 0s: it stays in the high word
 back-high : (l : ℕ) → back (l * 2 ^ 32 * 2 ^ 64) ≡ back (l * 2 ^ 32) * 2 ^ 64
 unfolding back
@@ -102,7 +108,7 @@ back-high l =
     e7
     ∙ xor-scaled (bit_xor (bit_xor m (m / 2)) (m / 4)) (m / 128) 64
 
--- the code's two words, times x^32 and times x^64
+-- the same in two words of 64 bits, times x^32 and times x^64
 pub x32-words : (h l : ℕ) → l < 2 ^ 64
     → bit_xor (h / 2 ^ 32) (back (l % 2 ^ 32 * 2 ^ 32)) * 2 ^ 64 + (h % 2 ^ 32 * 2 ^ 32 + l / 2 ^ 32) ≡ v_i (h * 2 ^ 64 + l) 32
 x32-words h l hl =

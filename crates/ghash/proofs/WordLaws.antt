@@ -1,13 +1,30 @@
--- The two words of a block against algorithm 1's operations, by the laws of ⊕ and of masks; and a block's bytes.
+-- Blocks made of two words. A mask of a bit's 128 copies, made of two words, keeps a block or clears it: so a bit adds v, or nothing.
 use mathlib.Core.Path.{◌≡◌, refl, sym, ap, ap₂, ◌∙◌}
-use mathlib.Core.List.{[], ◌∷◌}
-use Prim.Native.Nat.{ℕ, zero, suc, ◌+◌, ◌*◌, ◌/◌, ◌%◌, ◌^◌, ◌<◌}
+use Prim.Native.Nat.{ℕ, zero, suc, ◌+◌, ◌-◌, ◌*◌, ◌%◌, ◌^◌, ◌<◌}
 use native.Mathlib.Nat.{mod-eq_of_lt}
 use native.Mathlib.Omega.{arith}
-use lib.Bits.{bit_xor, bit_and, xor_block, xor_zero_r, and_comm, and_mask, and_zero_r}
-use Rattle.ghash.specs.Field.{r_128, by_bit, next_z, next_v}
-use Rattle.ghash.specs.Bytes.{bytes_of}
-use Rattle.ghash.proofs.FieldLaws.{high-run, low_run}
+use lib.Bits.{bit_xor, bit_and, bit_or, xor_block, xor_zero_r, and_mask, and_zero_r, or_zero_l, or_shifted}
+use Rattle.ghash.specs.Field.{by_bit, next_z}
+
+-- the two words of the mask
+abbrev pub both : ℕ → ℕ
+both half = bit_or (half * 2 ^ 64 % 2 ^ 128) half
+
+pub add_masked : (b z v : ℕ) → b < 2 → v < 2 ^ 128 → bit_xor z (bit_and v (both (b * 0xffff_ffff_ffff_ffff))) ≡ next_z b z v
+unfolding next_z by_bit
+add_masked zero z v hb hv = ap (bit_xor z) (ap (bit_and v) (or_zero_l 0) ∙ and_zero_r v) ∙ xor_zero_r z
+add_masked (suc zero) z v hb hv =
+    let e : both 0xffff_ffff_ffff_ffff ≡ 2 ^ 128 - 1 = or_shifted 0xffff_ffff_ffff_ffff 64 0xffff_ffff_ffff_ffff (omega arith) in
+    ap (bit_xor z) (ap (bit_and v) e ∙ and_mask v 128 ∙ mod-eq_of_lt hv)
+add_masked (suc (suc b)) z v hb hv = absurd (omega arith)
+
+-- a block of two words
+pub two-words : (a b : ℕ) → a < 2 ^ 64 → b < 2 ^ 64 → bit_or (a * 2 ^ 64 % 2 ^ 128) b ≡ a * 2 ^ 64 + b
+two-words a b ha hb =
+    let e : a * 2 ^ 64 % 2 ^ 128 ≡ a * 2 ^ 64 = omega arith in
+    rw e (or_shifted a 64 b hb)
+
+-- ---- word by word
 
 -- a mask of a bit's 64 copies keeps a word or clears it
 masked : (b n : ℕ) → b < 2 → n < 2 ^ 64 → bit_and n (b * 0xffff_ffff_ffff_ffff) ≡ by_bit b 0 n
@@ -37,28 +54,3 @@ by_zero : (b : ℕ) → by_bit b 0 0 ≡ 0
 unfolding by_bit
 by_zero zero = refl
 by_zero (suc b) = refl
-
-pub x-words : (h l : ℕ) → l < 2 ^ 64
-    → bit_xor (h / 2) (bit_and (l % 2 * 0xffff_ffff_ffff_ffff) 0xe100_0000_0000_0000) * 2 ^ 64 + (h % 2 * 0x8000_0000_0000_0000 + l / 2) ≡ next_v (h * 2 ^ 64 + l)
-unfolding next_v
-x-words h l hl =
-    let lo : ℕ = h % 2 * 0x8000_0000_0000_0000 + l / 2 in
-    let s : h / 2 * 2 ^ 64 + lo ≡ (h * 2 ^ 64 + l) / 2 = omega arith in
-    let e : l % 2 ≡ (h * 2 ^ 64 + l) % 2 = omega arith in
-    ap₂ (λ (m k : ℕ). bit_xor (h / 2) m * 2 ^ 64 + k)
-    (and_comm (l % 2 * 0xffff_ffff_ffff_ffff) 0xe100_0000_0000_0000 ∙ masked (l % 2) 0xe100_0000_0000_0000 (omega arith) (omega arith))
-    (sym (ap (bit_xor lo) (by_zero (l % 2)) ∙ xor_zero_r lo))
-    ∙ by-words (l % 2) (h / 2) lo 0xe100_0000_0000_0000 0 (omega arith) (omega arith)
-    ∙ ap₂ (λ (b v : ℕ). by_bit b v (bit_xor v r_128)) e s
-
--- ---- bytes
-
-pub block-bytes : (h l : ℕ) → l < 2 ^ 64
-    → h / 2 ^ 56 % 256 ∷ h / 2 ^ 48 % 256 ∷ h / 2 ^ 40 % 256 ∷ h / 2 ^ 32 % 256 ∷ h / 2 ^ 24 % 256 ∷ h / 2 ^ 16 % 256 ∷ h / 2 ^ 8 % 256 ∷ h / 2 ^ 0 % 256
-    ∷ l / 2 ^ 56 % 256 ∷ l / 2 ^ 48 % 256 ∷ l / 2 ^ 40 % 256 ∷ l / 2 ^ 32 % 256 ∷ l / 2 ^ 24 % 256 ∷ l / 2 ^ 16 % 256 ∷ l / 2 ^ 8 % 256 ∷ l / 2 ^ 0 % 256 ∷ []
-    ≡ bytes_of (h * 2 ^ 64 + l) 16
-unfolding bytes_of
-block-bytes h l p = λ t.
-    high-run h l 256 56 p t ∷ high-run h l 256 48 p t ∷ high-run h l 256 40 p t ∷ high-run h l 256 32 p t ∷ high-run h l 256 24 p t ∷ high-run h l 256 16 p t ∷ high-run h l 256 8 p t ∷ high-run h l 256 0 p t
-    ∷ low_run h l 8 56 p (omega arith) t ∷ low_run h l 8 48 p (omega arith) t ∷ low_run h l 8 40 p (omega arith) t ∷ low_run h l 8 32 p (omega arith) t
-    ∷ low_run h l 8 24 p (omega arith) t ∷ low_run h l 8 16 p (omega arith) t ∷ low_run h l 8 8 p (omega arith) t ∷ low_run h l 8 0 p (omega arith) t ∷ []

@@ -1,4 +1,3 @@
 pub mod Field
 pub mod Bytes
 pub mod Ghash
-pub mod Words

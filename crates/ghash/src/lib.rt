@@ -10,17 +10,15 @@ mod field;
 ghost use Rattle.std.specs.Prelude.{◌≡◌};
 ghost use Rattle.ghash.specs.Ghash.{hash_of};
 
-use crate::field::Block;
+use crate::blocks::{absorb, block, len_bits, start};
+use crate::field::mul;
 
 // S of section 7.1, step 5: the hash of additional data and ciphertext under the subkey h.
 pub fn hash(h: [u8; 16], a: &[u8], c: &[u8]) -> [u8; 16]
     ensures { result ≡ hash_of h a.now c.now }
 {
-    let k = blocks::block_at(&h, 0);
-    let y = blocks::absorb(k, blocks::start(k, a), c);
-    let l = Block {
-        hi: blocks::len_bits(a),
-        lo: blocks::len_bits(c),
-    };
-    blocks::bytes_of(field::mul(field::xor(y, l), k))
+    let k = block(&h);
+    let y = absorb(k, start(k, a), c);
+    let lengths = u128::from(len_bits(a)) << 64 | u128::from(len_bits(c));
+    mul::<4>(y ^ lengths, k).to_be_bytes()
 }

@@ -1,14 +1,19 @@
 -- The first fault of an ordered list of checks: in two parts, and thing by thing as a loop comes to them.
-use mathlib.Core.Path.{◌≡◌, refl, sym, ◌∙◌}
+use mathlib.Core.Path.{◌≡◌, refl, sym, ap, ◌∙◌}
 use mathlib.Core.Logic.{◌≢◌}
 use mathlib.Core.Bool.{Bool, true, false}
 use mathlib.Core.List.{List, [], ◌∷◌, ◌++◌}
 use Prim.Native.Nat.{ℕ, zero, suc, ◌+◌, ◌-◌, ◌<◌, ◌≤◌}
 use native.Mathlib.Numerals.{add-one}
 use native.Mathlib.Omega.{arith}
+use Rattle.std.specs.Prelude.{Result, Ok, Err}
+use Rattle.std.specs.Result.{IsErrAnd}
+use Rattle.std.proofs.lemmas.Result.{err_from_is_err_and}
 use Rattle.octets.specs.Checks.{pick, is_zero}
-use Rattle.grammar.specs.Faults.{Check, none, one, first, each, ◌else◌}
-use Rattle.grammar.specs.declared.Fault.{Fault}
+use Rattle.refusal.specs.declared.Refusal.{Refusal}
+use Rattle.refusal.proofs.NumberLaws.{above-zero, refusal-one}
+use Rattle.grammar.specs.declared.Fault as Declared
+use Rattle.grammar.specs.Faults.{Fault, Check, none, one, first, each, ◌else◌, fault_in}
 
 -- a fault decides, whatever comes after, and none gives way
 pub else-stop : (f g : Fault) → f.number ≢ 0 → (f else g) ≡ f
@@ -31,12 +36,26 @@ unfolding first
 first-append [] ys = refl
 first-append (c ∷ cs) ys = rw (first-append cs ys) (sym (else-assoc (one c) (first cs) (first ys)))
 
--- code that returns the fault of the first part, and code that goes on to the second
-pub stop : (xs ys : List Check) (f : Fault) → f ≡ first xs → f.number ≢ 0 → f ≡ first (xs ++ ys)
-stop xs ys f e h = e ∙ sym (else-stop (first xs) (first ys) (rw e at h)) ∙ sym (first-append xs ys)
+-- what a judge hands back is settled by its fault
+pub fault_in-one : (x y : Result Unit Declared.Fault) → fault_in x ≡ fault_in y → x ≡ y
+fault_in-one (Ok a) (Ok b) e = refl
+fault_in-one (Ok a) (Err g) e = absurd (above-zero g.why (sym (ap (λ (f : Fault). f.number) e)))
+fault_in-one (Err f) (Ok b) e = absurd (above-zero f.why (ap (λ (f : Fault). f.number) e))
+fault_in-one (Err f) (Err g) e = ap Err (both (refusal-one f.why g.why (ap (λ (f : Fault). f.number) e)) (ap (λ (f : Fault). f.offset) e)) where
+  both : f.why ≡ g.why → f.offset ≡ g.offset → f ≡ g
+  both p q = ap (λ (w : Refusal). record { why = w; offset = f.offset }) p ∙ ap (λ (n : ℕ). record { why = g.why; offset = n }) q
 
-pub go : (xs ys : List Check) (f g : Fault) → f ≡ first xs → f.number ≡ 0 → g ≡ first ys → g ≡ first (xs ++ ys)
-go xs ys f g e h k = k ∙ sym (else-go (first xs) (first ys) (rw e at h)) ∙ sym (first-append xs ys)
+-- judges that hand back the fault f of the first part, and judges that go on to the second
+pub stop : (xs ys : List Check) (r : Result Unit Declared.Fault) (f : Declared.Fault)
+    → IsErrAnd r (λ g. g ≡ f) → fault_in (Err f) ≡ first xs → fault_in r ≡ first (xs ++ ys)
+stop xs ys r f i e =
+    let p = err_from_is_err_and r i in
+    rw (p.1, p.2)
+    (e ∙ sym (else-stop (first xs) (first ys) (λ z. above-zero f.why (ap (λ (g : Fault). g.number) e ∙ z))) ∙ sym (first-append xs ys))
+
+pub go : (xs ys : List Check) (r : Result Unit Declared.Fault) → none ≡ first xs → fault_in r ≡ first ys → fault_in r ≡ first (xs ++ ys)
+go xs ys r e k =
+    k ∙ sym (else-go (first xs) (first ys) (ap (λ (g : Fault). g.number) (sym e))) ∙ sym (first-append xs ys)
 
 module _ (F : ℕ → List Check) (i n : ℕ) where
   -- at thing i of n the first fault is among those that are left
@@ -47,8 +66,9 @@ module _ (F : ℕ → List Check) (i n : ℕ) where
   unfolding each
   left_one l = let e : n - i ≡ suc (n - (i + 1)) = omega arith in rw (e, add-one)
 
-  pub left-stop : Left → i < n → (f : Fault) → f ≡ first (F i) → f.number ≢ 0 → f ≡ first (each F 0 n)
-  left-stop h l f e k = stop (F i) (each F (i + 1) (n - (i + 1))) f e k ∙ sym (left_one l) ∙ h.1
+  pub left-stop : Left → i < n → (r : Result Unit Declared.Fault) (f : Declared.Fault)
+      → IsErrAnd r (λ g. g ≡ f) → fault_in (Err f) ≡ first (F i) → fault_in r ≡ first (each F 0 n)
+  left-stop h l r f k e = stop (F i) (each F (i + 1) (n - (i + 1))) r f k e ∙ sym (left_one l) ∙ h.1
 
   pub left_end : Left → n ≤ i → none ≡ first (each F 0 n)
   unfolding each first
@@ -58,6 +78,12 @@ module _ (F : ℕ → List Check) (n : ℕ) where
   pub left-all : Left F 0 n
   left-all = let e : n - 0 ≡ n = omega arith in (omega arith, rw e)
 
-  pub left-more : (i : ℕ) → Left F i n → i < n → (f : Fault) → f ≡ first (F i) → f.number ≡ 0 → Left F (i + 1) n
-  left-more i h l f e k =
-      (omega arith, go (F i) (each F (i + 1) (n - (i + 1))) f (first (each F (i + 1) (n - (i + 1)))) e k refl ∙ sym (left_one F i n l) ∙ h.1)
+  pub left-more : (i : ℕ) → Left F i n → i < n → none ≡ first (F i) → Left F (i + 1) n
+  left-more i h l e = (
+    omega arith,
+    sym (else-go (first (F i)) (first (each F (i + 1) (n - (i + 1)))) (ap (λ (f : Fault). f.number) (sym e)))
+        ∙ sym (first-append (F i) (each F (i + 1) (n - (i + 1)))) ∙ sym (left_one F i n l) ∙ h.1,
+  )
+
+-- what closes the goals of a loop over things, but for its early exits
+pub ruleset things = (left-all, left-more, left_end)

@@ -16,9 +16,8 @@ use Rattle.octets.proofs.SameLaws.{same_refl}
 use Rattle.octets.proofs.RangeLaws.{between-both}
 use Rattle.layout.specs.Layout.{format, rows, total, row, kind, id, start, size, hosts_before, expected, commands, entries, word, name_start, name}
 use Rattle.grammar.specs.Names.{fitting}
-use Rattle.grammar.specs.Faults.{Check, ◌at◌when◌, first, each, ◌else◌, none}
+use Rattle.grammar.specs.Faults.{Fault, Check, ◌at◌when◌, first, each, ◌else◌, none}
 use Rattle.grammar.specs.Checks.{head_checks, kind_fits, ordinal, size_fits, row_checks, count_checks, word_checks, letter_checks, used_below, name_checks, interface_checks, body_checks, fault_of}
-use Rattle.grammar.specs.declared.Fault.{Fault}
 use Rattle.grammar.proofs.TestLaws.{or-none}
 use Rattle.grammar.proofs.TwinLaws.{found}
 use Rattle.grammar.proofs.HostLaws.{hosts-host, hosts-other}

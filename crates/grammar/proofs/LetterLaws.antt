@@ -1,88 +1,29 @@
--- Letters, in the order in which the code looks for them; and names of letters alone, in which no letter is a fault.
+-- Names byte by byte, and names of letters alone, in which no letter is a fault.
 use mathlib.Core.Path.{◌≡◌, refl, sym, ap, ◌∙◌}
-use mathlib.Core.Bool.{Bool, true, false, not, ◌&&◌, ◌||◌}
+use mathlib.Core.Bool.{Bool, true, false, not, ◌&&◌, and_assoc, and-true}
 use mathlib.Core.List.{List, [], ◌∷◌}
 use Prim.Native.Nat.{ℕ, zero, suc, ◌+◌, ◌-◌, ◌<◌, ◌≤◌}
 use native.Mathlib.Numerals.{add-one}
 use native.Mathlib.Omega.{arith}
-use lib.Bits.{bit_or}
-use lib.Dec.{leb, ltb, eqb}
+use lib.Dec.{ltb, eqb}
 use lib.ListN.{length, get_or, drop, drop_of_length-le}
 use lib.Seq.{drop-cons}
-use borrow.Author.Tests.{lt-ltb, lt-leb, le-leb, leb-true, leb-false, ne_eqb, eqb-true, eqb-false, not-true}
-use Rattle.octets.specs.Range.{between}
+use borrow.Author.Tests.{lt-ltb, ne_eqb, eqb-true, eqb-false, not-true}
 use Rattle.octets.proofs.CheckLaws.{and_left, and_right}
-use Rattle.octets.proofs.SameLaws.{or-zero, and_assoc, and-true}
 use Rattle.grammar.specs.Names.{letter, inner, all_inner, plain, inner_space, fitting}
 use Rattle.grammar.specs.Faults.{none, first, each}
 use Rattle.grammar.specs.Checks.{letter_checks}
 use Rattle.grammar.proofs.TestLaws.{or-none, or_right}
 
-abbrev marks : ℕ → Bool
-marks x = eqb x 45 || (eqb x 95 || (eqb x 43 || (eqb x 46 || eqb x 47)))
-
-pub lower : (x : ℕ) → between 97 122 x ≡ true → true ≡ letter x
-unfolding letter
-lower x e = sym (or_right (between 65 90 x) (between 97 122 x || (between 48 57 x || marks x)) (ap (λ t. t || (between 48 57 x || marks x)) e))
-
-pub upper : (x : ℕ) → between 65 90 x ≡ true → true ≡ letter x
-unfolding letter
-upper x e = sym (ap (λ t. t || (between 97 122 x || (between 48 57 x || marks x))) e)
-
-mark : (d : ℕ) → d < 3 → true ≡ letter (45 + d)
-unfolding letter
-mark zero h = refl
-mark (suc zero) h = refl
-mark (suc (suc zero)) h = refl
-mark (suc (suc (suc d))) h = absurd (omega arith)
-
--- the digits follow - . and /
-pub digit : (x : ℕ) → between 45 57 x ≡ true → true ≡ letter x
-unfolding letter
-digit x e = either (leb 48 x) refl where
-  either : (t : Bool) → leb 48 x ≡ t → true ≡ letter x
-  either true h =
-      let d : between 48 57 x ≡ true = rw (h, and_right (leb 45 x) (leb x 57) e) in
-      sym (or_right (between 65 90 x) (between 97 122 x || (between 48 57 x || marks x))
-      (or_right (between 97 122 x) (between 48 57 x || marks x) (ap (λ t. t || marks x) d)))
-  either false h =
-      let a : 45 ≤ x = leb-true 45 x (and_left (leb 45 x) (leb x 57) e) in
-      let b : x < 48 = leb-false 48 x h in
-      let f : x ≡ 45 + (x - 45) = omega arith in mark (x - 45) (omega arith) ∙ sym (ap letter f)
-
-apart : (lo hi x : ℕ) → (lo ≤ x → hi < x) → between lo hi x ≡ false
-apart lo hi x h = either (leb lo x) refl where
-  either : (t : Bool) → leb lo x ≡ t → between lo hi x ≡ false
-  either true e = rw e (lt-leb x hi (h (leb-true lo x e)))
-  either false e = rw e
-
-outside : (lo hi x : ℕ) → between lo hi x ≡ false → lo ≤ x → hi < x
-outside lo hi x e l = leb-false x hi (rw (le-leb lo x l) at e)
-
--- what is neither of these is a letter only if it is +
-pub plus : (x : ℕ) → between 97 122 x ≡ false → between 65 90 x ≡ false → between 45 57 x ≡ false → (x ≡ 95 → ⊥) → eqb x 43 ≡ letter x
-unfolding letter
-plus x l u d k =
-    let o = outside 45 57 x d in
-    rw (
-      u,
-      l,
-      apart 48 57 x (λ h. o (omega arith)),
-      ne_eqb x 45 (λ e. omega (arith, o (omega arith))),
-      ne_eqb x 95 k,
-      ne_eqb x 46 (λ e. omega (arith, o (omega arith))),
-      ne_eqb x 47 (λ e. omega (arith, o (omega arith))),
-    ) (sym (or-none (eqb x 43)))
-
--- what is odd in a byte is collected in c: one more byte, and none left
-pub inner-step : (c z : ℕ) (s : List ℕ) (k : ℕ) → k < length s → eqb z 0 ≡ inner (get_or s k 0)
-    → eqb (bit_or c z) 0 && all_inner (drop (k + 1) s) ≡ eqb c 0 && all_inner (drop k s)
+-- one more byte is looked at, and none is left
+pub inner-step : (t z : Bool) (s : List ℕ) (k : ℕ) → k < length s → z ≡ inner (get_or s k 0)
+    → (t && z) && all_inner (drop (k + 1) s) ≡ t && all_inner (drop k s)
 unfolding all_inner
-inner-step c z s k h e = rw (add-one, or-zero c z (eqb c 0) refl, e, and_assoc, drop-cons s k 0)
+inner-step t z s k h e = rw (add-one, e, and_assoc, drop-cons s k 0)
 
-pub inner-end : (c : ℕ) (s : List ℕ) (k : ℕ) → length s ≤ k → eqb c 0 && all_inner (drop k s) ≡ eqb c 0
+pub inner-end : (t : Bool) (s : List ℕ) (k : ℕ) → length s ≤ k → t && all_inner (drop k s) ≡ t
 unfolding all_inner
-inner-end c s k h = rw (drop_of_length-le s h) (and-true (eqb c 0))
+inner-end t s k h = rw (drop_of_length-le s h) (and-true t)
 
 inner-at : (s : List ℕ) → all_inner s ≡ true → (k : ℕ) → k < length s → inner (get_or s k 0) ≡ true
 unfolding all_inner

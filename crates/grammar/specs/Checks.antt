@@ -5,8 +5,7 @@ use Rattle.octets.specs.Same.{same}
 use Rattle.octets.specs.Range.{between}
 use Rattle.layout.specs.Layout.{format, rows, total, row, kind, id, start, size, hosts_before, expected, commands, entries, word, name_start, name}
 use Rattle.grammar.specs.Names.{fitting}
-use Rattle.grammar.specs.Faults.{Check, ◌at◌when◌, first, each}
-use Rattle.grammar.specs.declared.Fault.{Fault}
+use Rattle.grammar.specs.Faults.{Fault, Check, ◌at◌when◌, first, each}
 
 -- "40: below 8 or above 12,232 bytes (0), total not the length (4). 41: format (0). 42: rows 0, above 40, or past the end (2)."
 abbrev pub head_checks : List ℕ → List Check

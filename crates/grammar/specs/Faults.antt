@@ -1,7 +1,13 @@
 -- Ordered checks with a place: `number at place when test`. The first whose test holds is the fault; none is number 0 at 0.
-use Rattle.std.specs.Prelude.{ℕ, zero, suc, Bool, List, [], ◌∷◌, ◌++◌}
+use Rattle.std.specs.Prelude.{ℕ, zero, suc, Bool, List, [], ◌∷◌, ◌++◌, Result, Ok, Err}
 use Rattle.octets.specs.Checks.{pick, is_zero}
-use Rattle.grammar.specs.declared.Fault.{Fault}
+use Rattle.refusal.specs.Numbers.{refusal_number}
+use Rattle.grammar.specs.declared.Fault as Declared
+
+-- a refusal's number and the place of the fault; 0 at 0 for a good book
+pub record Fault : Type 0 where
+  pub number : ℕ
+  pub offset : ℕ
 
 infix 70 ◌at◌when◌
 pub data Check : Type 0 where
@@ -29,3 +35,8 @@ first (c ∷ cs) = one c else first cs
 unfoldable pub each : (ℕ → List Check) → ℕ → ℕ → List Check
 each f i zero = []
 each f i (suc m) = f i ++ each f (suc i) m
+
+-- the fault in what a judge hands back
+abbrev pub fault_in : Result Unit Declared.Fault → Fault
+fault_in (Ok u) = none
+fault_in (Err f) = fault (refusal_number f.why) f.offset

@@ -4,99 +4,68 @@
 // it, and where both are of a kind their names are compared. A book has at most 12,232 bytes and 40 rows: 780 pairs of rows at
 // most, and 524 comparisons of names of at most 256 bytes.
 
-#![tactic(auto)]
+#![tactic(auto, unfolding(crate::specs::Faults::first))]
 
 mod bodies;
 mod names;
 mod rows;
 
 ghost use Rattle.std.specs.Prelude.{◌≡◌};
-ghost use Rattle.grammar.specs.Faults.{first, fault, none};
+ghost use Rattle.refusal.specs.Numbers.{refusal_number};
+ghost use Rattle.grammar.specs.Faults.{first, fault, fault_in};
 ghost use Rattle.grammar.specs.Checks.{head_checks, fault_of};
 
-// A refusal's number and the place of the fault; 0 at 0 for a good book.
-#[derive(Clone, Copy)]
+use refusal::Refusal;
+
+// Why a book is refused, and the place of its fault.
+#[derive(Clone, Copy, Debug, PartialEq, Eq)]
 pub struct Fault {
-    pub number: u8,
+    pub why: Refusal,
     pub offset: usize,
 }
 
-pub(crate) const SIZE: u8 = 40;
-
-pub(crate) const FORMAT: u8 = 41;
-
-pub(crate) const ROWS: u8 = 42;
-
-pub(crate) const KIND_OR_ID: u8 = 43;
-
-pub(crate) const START_OR_LENGTH: u8 = 44;
-
-pub(crate) const COUNTS: u8 = 45;
-
-pub(crate) const PERMITTED: u8 = 46;
-
-pub(crate) const LETTER: u8 = 47;
-
-pub(crate) const NAME_USED: u8 = 48;
-
-pub(crate) fn fault_at(number: u8, offset: usize) -> Fault
-    ensures { result ≡ fault number offset }
-{
-    Fault {
-        number: number,
-        offset: offset,
+impl Fault {
+    fn at(why: Refusal, offset: usize) -> Fault
+        ensures { fault_in (Err result) ≡ fault (refusal_number why) offset }
+    {
+        Fault { why, offset }
     }
 }
 
-pub(crate) fn no_fault() -> Fault
-    ensures { result ≡ none }
-{
-    Fault {
-        number: 0,
-        offset: 0,
-    }
-}
-
-fn judge_head(book: &[u8]) -> Fault
-    ensures { result ≡ first (head_checks book.now) }
+fn judge_head(book: &[u8]) -> Result<(), Fault>
+    ensures { fault_in result ≡ first (head_checks book.now) }
 {
     if book.len() < 8 {
-        return fault_at(SIZE, 0);
+        return Err(Fault::at(Refusal::Size, 0));
     }
     if 12232 < book.len() {
-        return fault_at(SIZE, 0);
+        return Err(Fault::at(Refusal::Size, 0));
     }
     if layout::total(book) != book.len() {
-        return fault_at(SIZE, 4);
+        return Err(Fault::at(Refusal::Size, 4));
     }
     if layout::format(book) != 1 {
-        return fault_at(FORMAT, 0);
+        return Err(Fault::at(Refusal::Format, 0));
     }
     let n = layout::rows(book);
     if n == 0 {
-        return fault_at(ROWS, 2);
+        return Err(Fault::at(Refusal::Rows, 2));
     }
     if 40 < n {
-        return fault_at(ROWS, 2);
+        return Err(Fault::at(Refusal::Rows, 2));
     }
-    if book.len() < 8 + 12 * n as usize {
-        return fault_at(ROWS, 2);
+    if book.len() < layout::row(n) {
+        return Err(Fault::at(Refusal::Rows, 2));
     }
-    no_fault()
+    Ok(())
 }
 
 // The first fault of a book.
-pub fn judge(book: &[u8]) -> Fault
-    ensures { result ≡ fault_of book.now }
+pub fn judge(book: &[u8]) -> Result<(), Fault>
+    ensures { fault_in result ≡ fault_of book.now }
 {
-    let head = judge_head(book);
-    if head.number != 0 {
-        return head;
-    }
+    judge_head(book)?;
     let n = layout::rows(book);
-    let row = rows::judge_rows(book, n);
-    if row.number != 0 {
-        return row;
-    }
+    rows::judge_rows(book, n)?;
     bodies::judge_bodies(book, n)
 }

@@ -1,8 +1,9 @@
 -- Numbers in decimal: digit by digit, and how many digits there are.
-use mathlib.Core.Path.{◌≡◌, refl}
+use mathlib.Core.Path.{◌≡◌, refl, ap}
 use mathlib.Core.Bool.{Bool, true, false}
 use mathlib.Core.List.{[], ◌∷◌, ◌++◌}
-use Prim.Native.Nat.{ℕ, zero, suc, ◌+◌, ◌/◌, ◌%◌, ◌≤◌, ◌<◌}
+use Prim.Native.Nat.{ℕ, zero, suc, ◌+◌, ◌/◌, ◌%◌, ◌^◌, ◌≤◌, ◌<◌}
+use native.Mathlib.Nat.{pow-succ'}
 use native.Mathlib.Omega.{arith}
 use borrow.Author.Tests.{lt-ltb, le-ltb, ltb-true, ltb-false}
 use lib.Dec.{ltb}
@@ -18,6 +19,21 @@ module _ (f n : ℕ) where
   pub digits_more : 10 ≤ n → digits (suc f) n ≡ digits f (n / 10) ++ ((48 + n % 10) ∷ [])
   unfolding digits
   digits_more h = rw (le-ltb n 10 h)
+
+-- a digit more than a number has changes nothing
+digits_enough : (f n : ℕ) → n < 10 ^ suc f → digits (suc (suc f)) n ≡ digits (suc f) n
+digits_enough zero n h = let l : n < 10 = omega arith in rw (digits-one 1 n l, digits-one 0 n l)
+digits_enough (suc f) n h = either (ltb n 10) refl (digits_enough f (n / 10) (omega (arith, pow-succ' 10 (suc f)))) where
+  either : (t : Bool) → ltb n 10 ≡ t → digits (suc (suc f)) (n / 10) ≡ digits (suc f) (n / 10) → digits (suc (suc (suc f))) n ≡ digits (suc (suc f)) n
+  either true e q = let l = ltb-true n 10 e in rw (digits-one (suc (suc f)) n l, digits-one (suc f) n l)
+  either false e q = let l = ltb-false n 10 e in rw (digits_more (suc (suc f)) n l, digits_more (suc f) n l, q)
+
+-- the last digit, and the digits before it
+pub decimal_digit : (n : ℕ) → n < 10 → decimal n ≡ (48 + n % 10) ∷ []
+decimal_digit n h = rw (digits-one 4 n h) (ap (λ (d : ℕ). (48 + d) ∷ []) (omega arith))
+
+pub decimal_more : (n : ℕ) → 10 ≤ n → n < 65536 → decimal n ≡ decimal (n / 10) ++ ((48 + n % 10) ∷ [])
+decimal_more n h l = rw (digits_more 4 n h, digits_enough 3 (n / 10) (omega arith))
 
 pub length_digits : (f n : ℕ) → length (digits f n) ≤ f
 unfolding digits

@@ -28,9 +28,6 @@ module _ (d : List ℕ) (at : ℕ) (x y : List ℕ) where
   pub wrote_then : {a b : ℕ} {u v : List ℕ} → Wrote d at x a u → Wrote u a y b v → b ≤ length d → Wrote d at (x ++ y) b v
   wrote_then p q h = (omega (arith, length-append x y), q.1 ∙ rw (p.0, p.1) (placed-placed (omega arith)))
 
-pub wrote-length : (d : List ℕ) (at : ℕ) (x : List ℕ) {r : ℕ} {e : List ℕ} → Wrote d at x r e → length e ≡ length d
-wrote-length d at x w = ap length w.1 ∙ length-placed d at x
-
 -- nothing was written yet
 pub wrote_none : (d : List ℕ) (at : ℕ) → at ≤ length d → Wrote d at [] at d
 wrote_none d at h = (omega arith, rw (placed-fits d at [] (omega arith), append-nil, add-zero) (sym (take-append-drop at d)))

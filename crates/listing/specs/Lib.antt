@@ -1,3 +1,4 @@
 pub mod Decimal
 pub mod Lines
 pub mod Wrote
+pub mod Page

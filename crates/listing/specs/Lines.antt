@@ -64,15 +64,6 @@ interface_line r labels i =
     labelled interface_text (i + 1) ++ labelled commands_text (get_or r.commands i 0) ++ labelled entries_text (get_or r.entries i 0)
     ++ ending (part labels (256 * i) (get_or r.spans i 0))
 
--- a host's line (0) or an interface's (any other), and how many of them there are
-unfoldable pub line_of : ℕ → Rights → List ℕ → ℕ → List ℕ
-line_of zero = host_line
-line_of (suc w) = interface_line
-
-unfoldable pub line_count : ℕ → Rights → ℕ
-line_count zero r = r.hosts
-line_count (suc w) r = r.interfaces
-
 -- m lines from line i on
 unfoldable pub lines_from : (ℕ → List ℕ) → ℕ → ℕ → List ℕ
 lines_from f i zero = []

@@ -1,5 +1,6 @@
 pub mod LittleLaws
 pub mod RoomLaws
+pub mod WidthLaws
 pub mod PlacedLaws
 pub mod SameLaws
 pub mod RangeLaws

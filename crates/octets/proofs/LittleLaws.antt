@@ -1,16 +1,16 @@
 -- Numbers and their bytes, little-endian: k bytes write each number below 256 ^ k and read back as it, bytes are written back as
 -- they were read, and the number of a part is that of its first bytes plus the weighted number of the rest.
-use mathlib.Core.Path.{◌≡◌, refl, sym, ap, ◌∙◌}
+use mathlib.Core.Path.{◌≡◌, refl, ap, ◌∙◌}
 use mathlib.Core.List.{List, [], ◌∷◌}
-use Prim.Native.Nat.{ℕ, zero, suc, ◌+◌, ◌*◌, ◌/◌, ◌%◌, ◌^◌, ◌-◌, ◌<◌, ◌≤◌}
-use native.Mathlib.Nat.{zero-add, suc-add, mul_comm, mul_assoc, pow-zero, pow-succ'}
+use Prim.Native.Nat.{ℕ, zero, suc, ◌+◌, ◌*◌, ◌/◌, ◌%◌, ◌^◌, ◌<◌, ◌≤◌}
+use native.Mathlib.Nat.{zero-add, suc-add, mul_assoc, pow-zero, pow-succ'}
 use native.Mathlib.Numerals.{add-one}
 use native.Mathlib.Omega.{arith}
 use lib.ListN.{length, get_or, take, drop, drop_of_length-le}
-use lib.Seq.{drop-cons, drop-drop, take-nil}
+use lib.Seq.{drop-cons, take-nil}
 use Rattle.octets.specs.Little.{number, octets, Bytes}
 use Rattle.octets.specs.Room.{part, placed}
-use Rattle.octets.proofs.RoomLaws.{part-rest, part_placed}
+use Rattle.octets.proofs.RoomLaws.{part_placed}
 
 pub length-octets : (k n : ℕ) → length (octets k n) ≡ k
 unfolding octets
@@ -56,28 +56,6 @@ number_past s at k h = rw (drop_of_length-le s h, take-nil k)
 pub number-byte : (s : List ℕ) (at : ℕ) → at < length s → number (part s at 1) ≡ get_or s at 0
 unfolding number
 number-byte s at h = rw (drop-cons s at 0) (omega arith)
-
--- what is read from the rest of s: j bytes, and the k after them
-pub number-two : (s : List ℕ) (at j k a b : ℕ) → a ≡ number (part (part s at (length s - at)) 0 j) → b ≡ number (part (part s at (length s - at)) j k)
-    → a + b * 256 ^ j ≡ number (part s at (j + k))
-number-two s at j k a b ea eb =
-    let e : a ≡ number (take j (drop at s)) = rw (part-rest s at) at ea in
-    let f : b ≡ number (take k (drop j (drop at s))) = rw (part-rest s at) at eb in
-    rw (e, f, mul_comm) (sym (number-part-split j k (drop at s)))
-
--- two bytes that are there
-pub number-pair : (t : List ℕ) (at : ℕ) → at + 2 ≤ length t → get_or t at 0 + get_or t (at + 1) 0 * 256 ≡ number (part t at 2)
-unfolding number
-number-pair t at h =
-    let a : at < length t = omega arith in
-    let b : suc at < length t = omega arith in
-    rw (add-one, drop-cons t at 0 a, drop-cons t (suc at) 0 b) (omega arith)
-
--- two parts, one after the other
-pub number-join : (s : List ℕ) (at j k a b : ℕ) → a ≡ number (part s at j) → b ≡ number (part s (at + j) k) → a + b * 256 ^ j ≡ number (part s at (j + k))
-number-join s at j k a b ea eb =
-    let f : b ≡ number (take k (drop j (drop at s))) = rw (← drop-drop j at s) at eb in
-    rw (ea, f, mul_comm) (sym (number-part-split j k (drop at s)))
 
 -- a number that was placed is read back
 pub number-placed : (d : List ℕ) (at k n : ℕ) → at + k ≤ length d → n < 256 ^ k → number (part (placed d at (octets k n)) at k) ≡ n

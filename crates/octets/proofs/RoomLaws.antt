@@ -17,10 +17,6 @@ use Rattle.octets.specs.Room.{part, over, placed, at_start, filled}
 pub part-rest : (s : List ℕ) (at : ℕ) → part s at (length s - at) ≡ drop at s
 part-rest s at = take_all (length s - at) (drop at s) (omega (arith, length-drop at s))
 
--- past the end there is none
-pub part-past : (s : List ℕ) (at size : ℕ) → length s ≤ at → part s at size ≡ []
-part-past s at size h = ap (take size) (drop_of_length-le s {i = at} h) ∙ take-nil size
-
 -- where the slice ends first, a part is the rest
 pub part_end : (s : List ℕ) (at size : ℕ) → length s - at ≤ size → part s at size ≡ drop at s
 part_end s at size h = take_all size (drop at s) (omega (arith, length-drop at s))
@@ -109,8 +105,11 @@ module _ (k : ℕ) (s : List ℕ) (at : ℕ) where
   length-filled = rw (← filled-placed) (length-placed zeros 0 (part s at k) ∙ zeros-long)
 
   -- where the string reaches there, they are its own
-  pub filled-there : at + k ≤ length s → filled k s at ≡ part s at k
+  pub filled-whole : k ≤ length (part s at k) → filled k s at ≡ part s at k
   unfolding filled
-  filled-there h =
-      ap (λ (l : List ℕ). part s at k ++ l) (drop_of_length-le zeros {i = length (part s at k)} (omega (arith, length_part s at k h, zeros-long)))
+  filled-whole h =
+      ap (λ (l : List ℕ). part s at k ++ l) (drop_of_length-le zeros {i = length (part s at k)} (omega (arith, zeros-long)))
       ∙ append-nil (part s at k)
+
+  pub filled-there : at + k ≤ length s → filled k s at ≡ part s at k
+  filled-there h = filled-whole (omega (arith, length_part s at k h))

@@ -1,7 +1,7 @@
 -- Byte strings that are the same: `same` holds just of equal ones. A comparison that collects the differing bits of each pair
 -- of bytes finds it: the bits are 0 so far, and the rest is the same.
 use mathlib.Core.Path.{◌≡◌, refl}
-use mathlib.Core.Bool.{Bool, true, false, ◌&&◌, true≢false, false≢true}
+use mathlib.Core.Bool.{Bool, true, false, ◌&&◌, and_assoc, and-true, true≢false, false≢true}
 use mathlib.Core.List.{List, [], ◌∷◌}
 use Prim.Native.Nat.{ℕ, ◌+◌, ◌≤◌, ◌<◌}
 use native.Mathlib.Numerals.{add-one}
@@ -45,15 +45,19 @@ pub or-zero : (c z : ℕ) (t : Bool) → eqb c 0 ≡ t → eqb (bit_or c z) 0 �
 or-zero c z true e = rw (eqb-true c 0 e, or_zero_l z)
 or-zero c z false e = ne_eqb (bit_or c z) 0 (λ q. eqb-false c 0 e (omega (arith, or_add_and c z, and_le_r c z)))
 
-pub and_assoc : (p q r : Bool) → p && q && r ≡ p && (q && r)
-and_assoc true q r = refl
-and_assoc false q r = refl
-
-pub and-true : (p : Bool) → p && true ≡ p
-and-true true = refl
-and-true false = refl
-
 -- one more pair of bytes
+pub same_cons : (c x y : ℕ) (a b : List ℕ) → eqb (bit_or c (bit_xor x y)) 0 && same a b ≡ eqb c 0 && same (x ∷ a) (y ∷ b)
+unfolding same
+same_cons c x y a b = rw (or-zero c (bit_xor x y) (eqb c 0) refl, xor-zero x y (eqb x y) refl) (and_assoc (eqb c 0) (eqb x y) (same a b))
+
+-- no pair is left
+pub same_nil : (c : ℕ) (a b : List ℕ) → length a ≡ 0 → length b ≡ 0 → eqb c 0 && same a b ≡ eqb c 0
+unfolding same
+same_nil c [] [] ha hb = and-true (eqb c 0)
+same_nil c [] (y ∷ b) ha hb = absurd (omega arith)
+same_nil c (x ∷ a) b ha hb = absurd (omega arith)
+
+-- one more pair, found by its index
 pub same_step : (c : ℕ) (a b : List ℕ) (i : ℕ) → i < length a → i < length b
     → eqb (bit_or c (bit_xor (get_or a i 0) (get_or b i 0))) 0 && same (drop (i + 1) a) (drop (i + 1) b) ≡ eqb c 0 && same (drop i a) (drop i b)
 unfolding same
@@ -62,7 +66,7 @@ same_step c a b i ha hb =
     let y : ℕ = get_or b i 0 in
     rw (add-one, or-zero c (bit_xor x y) (eqb c 0) refl, xor-zero x y (eqb x y) refl, and_assoc, drop-cons a i 0, drop-cons b i 0)
 
--- no pair is left
+-- no pair is left, by the index
 pub same_end : (c : ℕ) (a b : List ℕ) (i : ℕ) → length a ≤ i → length b ≤ i → eqb c 0 && same (drop i a) (drop i b) ≡ eqb c 0
 unfolding same
 same_end c a b i ha hb = rw (drop_of_length-le a ha, drop_of_length-le b hb) (and-true (eqb c 0))

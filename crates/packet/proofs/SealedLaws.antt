@@ -1,11 +1,9 @@
 -- A packet under GCM: its length, what stands in a room where it is sealed or a ciphertext is deciphered, and the blocks enciphered.
-use mathlib.Core.Path.{◌≡◌, refl, sym, ap, ap₂, ◌∙◌}
-use mathlib.Core.Bool.{Bool, true, false}
+use mathlib.Core.Path.{◌≡◌, sym, ap, ap₂, ◌∙◌}
 use mathlib.Core.List.{List, ◌++◌}
-use Prim.Native.Nat.{ℕ, ◌+◌, ◌-◌, ◌≤◌, ◌<◌}
+use Prim.Native.Nat.{ℕ, ◌+◌, ◌≤◌, ◌<◌}
 use native.Mathlib.Omega.{arith}
-use borrow.Author.Tests.{le-leb, lt-leb, leb-true, leb-false}
-use lib.Dec.{leb}
+use borrow.Author.Tests.{le-leb, lt-leb}
 use lib.ListN.{length, drop, length-append, length-map}
 use Rattle.octets.specs.Room.{part, placed}
 use Rattle.octets.proofs.RoomLaws.{placed-start, placed-short, part_placed}
@@ -20,13 +18,6 @@ use Rattle.gcm.proofs.GcmLaws.{seal-count, seal-length, tag-length}
 use Rattle.capability.specs.Enciphered.{under_key}
 use Rattle.packet.specs.Sealed.{sealed_packet, sealed_blocks}
 use Rattle.octets.proofs.PlacedLaws.{placed-again, placed-front}
-
--- what is left of n once 28, a and l are taken off
-pub leb-left : (n a l p : ℕ) → a + 28 + l ≤ n → leb p (n - 28 - a - l) ≡ leb (a + 28 + (l + p)) n
-leb-left n a l p h = either (leb p (n - 28 - a - l)) refl where
-  either : (t : Bool) → leb p (n - 28 - a - l) ≡ t → t ≡ leb (a + 28 + (l + p)) n
-  either true e = sym (le-leb (a + 28 + (l + p)) n (omega (arith, leb-true p (n - 28 - a - l) e)))
-  either false e = sym (lt-leb (a + 28 + (l + p)) n (omega (arith, leb-false p (n - 28 - a - l) e)))
 
 -- GCTR of x at the start of a room, where x fits and where it doesn't
 module _ (p icb x room : List ℕ) where

@@ -1,6 +1,8 @@
-// Packets sealed and opened under a key: additional data, vector, tag, ciphertext.
+// Packets sealed and opened under a key: additional data, vector, tag, ciphertext. These stay parameters of their own: `authentic` and `seal`
+// are public, and a reply has no additional data.
 ghost use Rattle.std.specs.Prelude.{◌≡◌, ◌++◌, ◌+◌, ◌≤◌, leb, length};
-ghost use Rattle.octets.specs.Room.{part, placed};
+ghost use Rattle.std.specs.List.{flat_map};
+ghost use Rattle.octets.specs.Room.{placed};
 ghost use Rattle.aes.specs.Cipher.{cipher};
 ghost use Rattle.aes.specs.Prepared.{under};
 ghost use Rattle.gcm.specs.Gctr.{gctr};
@@ -11,7 +13,7 @@ ghost use Rattle.packet.specs.Sealed.{right_tag, sealed_packet, sealed_blocks};
 pub fn authentic(p: &aes::Prepared, a: &[u8], iv: [u8; 12], t: [u8; 16], c: &[u8]) -> bool
     ensures { result ≡ right_tag (under p.now) a.now iv t c.now }
 {
-    let h = aes::encrypt_prepared(p, [0u8; 16]);
+    let h = aes::encrypt_prepared(p, [0; 16]);
     gcm::authentic(p, h, iv, a, c, t)
 }
 
@@ -31,54 +33,38 @@ pub fn decipher(p: &aes::Prepared, iv: [u8; 12], n: u32, x: &[u8], room: &mut [u
 fn holds(n: usize, a: usize, lead: usize, payload: usize) -> bool
     ensures { result ≡ leb (a + 28 + (lead + payload)) n }
 {
-    if n < 28 {
-        return false;
-    }
-    let rest = n - 28;
-    if rest < a {
-        return false;
-    }
-    let left = rest - a;
-    if left < lead {
-        return false;
-    }
-    payload <= left - lead
+    let left = n
+        .checked_sub(28)
+        .and_then(|left| left.checked_sub(a))
+        .and_then(|left| left.checked_sub(lead));
+    left.is_some_and(|left| payload <= left)
 }
 
-// Puts x and then y into the room from `at` on.
-fn put_two(room: &mut [u8], at: usize, x: &[u8], y: &[u8])
-    requires { at + (length x.now + length y.now) ≤ length room.old }
-    ensures { room.new ≡ placed room.old at (x.now ++ y.now) }
+// Puts the pieces one after another into the room from `at` on.
+fn put_all(room: &mut [u8], mut at: usize, pieces: &[&[u8]])
+    requires { at + length (flat_map (λ x. x.now) pieces.now) ≤ length room.old }
+    ensures { room.new ≡ placed room.old at (flat_map (λ x. x.now) pieces.now) }
 {
-    octets::put(room, at, x);
-    octets::put(room, at + x.len(), y);
+    for piece in pieces {
+        octets::put(room, at, piece);
+        at += piece.len();
+    }
 }
 
-// Puts what stands before the ciphertext at the start of the room.
-fn put_front(room: &mut [u8], a: &[u8], iv: [u8; 12], t: [u8; 16])
-    requires { length a.now + 28 ≤ length room.old }
-    ensures { room.new ≡ placed room.old 0 (a.now ++ iv ++ t) }
-{
-    let n = a.len();
-    octets::put(room, 0, a);
-    octets::put(room, n, &iv);
-    octets::put(room, n + 12, &t);
-}
-
-// Seals the n bytes of the room from `at` on, in place. The tag is the result.
-fn seal_at(key: [u8; 16], a: &[u8], iv: [u8; 12], room: &mut [u8], at: usize, n: usize) -> [u8; 16]
-    requires { at + n ≤ length room.old }
-    ensures { (room.new ≡ placed room.old at (seal (cipher key) iv a.now (part room.old at n)).bytes)
-        × (result ≡ (seal (cipher key) iv a.now (part room.old at n)).tag) }
+// Seals a text in place. The tag is the result. The first two lines are gcm's keyed, which is its own: a public one would be one promise more
+// for two lines.
+fn seal_text(key: [u8; 16], a: &[u8], iv: [u8; 12], text: &mut [u8]) -> [u8; 16]
+    ensures { (text.new ≡ (seal (cipher key) iv a.now text.old).bytes)
+        × (result ≡ (seal (cipher key) iv a.now text.old).tag) }
 {
     let p = aes::prepare(key);
-    let h = aes::encrypt_prepared(&p, [0u8; 16]);
-    let end = at + n;
-    gcm::seal_in_place(&p, h, iv, a, &mut room[at..end])
+    let h = aes::encrypt_prepared(&p, [0; 16]);
+    gcm::seal_in_place(&p, h, iv, a, text)
 }
 
 // Seals lead and payload as one text: additional data, vector, tag and ciphertext at the start of the room. The result is the number of
-// blocks enciphered. Where the packet doesn't fit, the room stays as it was, and the result is 0.
+// blocks enciphered. Where the packet doesn't fit, the room stays as it was, and the result is 0. (0 and no None: both callers have judged the
+// room, and would unwrap a None that can't come; the clause says sealed_blocks.)
 pub fn seal(
     key: [u8; 16],
     a: &[u8],
@@ -95,8 +81,8 @@ pub fn seal(
     }
     let at = a.len() + 28;
     let n = lead.len() + payload.len();
-    put_two(room, at, lead, payload);
-    let t = seal_at(key, a, iv, room, at, n);
-    put_front(room, a, iv, t);
+    put_all(room, at, &[lead, payload]);
+    let t = seal_text(key, a, iv, &mut room[at..at + n]);
+    put_all(room, 0, &[a, &iv, &t]);
     gcm::blocks_in(n) + 2
 }

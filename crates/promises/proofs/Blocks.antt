@@ -35,8 +35,7 @@ use Rattle.packet.specs.Sealed.{right_tag}
 use Rattle.command.specs.Command.{ciph_of, outer_rows, outer, order, inner_rows, inner, named, right_rows, rightful, genuine, judged, weighed}
 use Rattle.command.specs.Command.{tagged, opening, command_refusal}
 use Rattle.command.specs.Blocks.{chained}
-use Rattle.command.specs.Heard.{heard}
-use Rattle.command.specs.declared.Heard.{Heard}
+use Rattle.command.specs.Heard.{Heard, heard}
 use Rattle.command.proofs.HeardLaws.{tag_right, heard-outer, heard-tag, heard-text}
 use Rattle.gateway.specs.Request.{requesting}
 use Rattle.gateway.specs.Proof.{proving}
@@ -47,8 +46,7 @@ use Rattle.gateway.specs.Revoke.{revoking}
 use Rattle.client.specs.Seal.{seal_refusal, ask_text, seal_blocks, sealing}
 use Rattle.client.specs.declared.seal.Ask.{Ask}
 use Rattle.client.specs.OpenReply as O
-use Rattle.client.specs.OpenReply.{reply_outer, reply_inner, opened}
-use Rattle.client.specs.declared.open.Opened.{Opened}
+use Rattle.client.specs.OpenReply.{Opened, reply_outer, reply_inner, opened}
 use Rattle.client.proofs.SealLaws.{lent}
 use Rattle.client.proofs.OpenLaws.{outer-refuses, tag-refuses, inner-refuses, reply-opens}
 use Rattle.promises.proofs.Facts.{zero-opens, order-there}

@@ -12,9 +12,8 @@ use Rattle.octets.specs.Same.{same}
 use Rattle.layout.specs.Layout.{format, rows, total, kind, id, start, size, hosts_before, expected, group, secret, commands, entries, owner, word}
 use Rattle.layout.specs.Layout.{lead, name_start, name}
 use Rattle.grammar.specs.Names.{letter, inner_space, fitting}
-use Rattle.grammar.specs.Faults.{none, first, each}
+use Rattle.grammar.specs.Faults.{Fault, none, first, each}
 use Rattle.grammar.specs.Checks.{kind_fits, ordinal, size_fits, used_below, name_checks, interface_checks, body_checks, fault_of}
-use Rattle.grammar.specs.declared.Fault.{Fault}
 use Rattle.book.specs.Contents.{Entry, contents_of, host_count, hosts_from, interfaces_from, entries_from}
 use Rattle.book.specs.States.{fill, laid, rights_of, names_of, state_of, loaded_with, loaded}
 use Rattle.state.specs.declared.Rights.{Rights}

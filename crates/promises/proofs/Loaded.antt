@@ -9,8 +9,7 @@ use lib.ListN.{length}
 use Rattle.octets.specs.Checks.{pick}
 use Rattle.octets.proofs.CheckLaws.{and_left, and_right}
 use Rattle.layout.specs.Layout.{rows, kind, entries, name_start, name}
-use Rattle.grammar.specs.declared.Fault.{Fault}
-use Rattle.grammar.specs.Faults.{Check, ◌at◌when◌, first, each}
+use Rattle.grammar.specs.Faults.{Fault, Check, ◌at◌when◌, first, each}
 use Rattle.grammar.specs.Checks.{head_checks, row_checks, word_checks, letter_checks, name_checks, interface_checks, body_checks, fault_of}
 use Rattle.grammar.proofs.GoodLaws.{good_none}
 use Rattle.book.specs.States.{loaded, loaded_with}

@@ -30,8 +30,7 @@ use Rattle.packet.proofs.SealedLaws.{packet-length}
 use Rattle.gateway.specs.Reply.{reply_refusal, reply_text, reply_bytes, replying, reply_room}
 use Rattle.gateway.proofs.ReplyLaws.{Replies, replies}
 use Rattle.client.specs.OpenReply as O
-use Rattle.client.specs.OpenReply.{reply_outer, reply_inner, opened, open_room}
-use Rattle.client.specs.declared.open.Opened.{Opened}
+use Rattle.client.specs.OpenReply.{Opened, reply_outer, reply_inner, opened, open_room}
 use Rattle.client.proofs.OpenLaws as C
 use Rattle.promises.specs.Step.{answer, reply}
 use Rattle.promises.specs.Packets.{key_of, sent}

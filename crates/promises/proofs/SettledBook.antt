@@ -3,10 +3,13 @@ use mathlib.Core.Path.{◌≡◌}
 use Rattle.layout.proofs as Layout
 use Rattle.state.proofs as State
 use Rattle.grammar.proofs as Grammar
+use Rattle.grammar.proofs.FaultLaws.{fault_in-one}
 use Rattle.book.proofs as Book
+use Rattle.book.proofs.LoadLaws.{told-one}
 use Rattle.listing.proofs as Listing
+use Rattle.listing.proofs.RenderLaws.{rendered-one}
 use Rattle.promises.specs.One.{Settles, SettlesResult, SettlesBoth}
-use Rattle.promises.proofs.One.{one, both}
+use Rattle.promises.proofs.One.{one, both, read}
 
 -- ---- layout
 
@@ -20,8 +23,14 @@ rows-settles κs a x y d e = one
 pub total-settles : SettlesResult Layout.total.Reads.Learnt
 total-settles κs a x y d e p q = one p.0 q.0
 
+pub row-settles : SettlesResult Layout.row.Reads.Learnt
+row-settles κs a x y d e = one
+
 pub kind-settles : SettlesResult Layout.kind.Reads.Learnt
-kind-settles κs a x y d e p q = one p.0 q.0
+kind-settles κs a x y d e = one
+
+pub kind-from-settles : SettlesResult Layout.kinds.KindFromU16.from.Reads.Learnt
+kind-from-settles κs a x y d e = one
 
 pub id-settles : SettlesResult Layout.id.Reads.Learnt
 id-settles κs a x y d e p q = one p.0 q.0
@@ -98,21 +107,20 @@ sound-settles κs a x y d e = one
 -- ---- grammar
 
 pub judge-settles : SettlesResult Grammar.judge.Reads.Learnt
-judge-settles κs a x y d e = one
+judge-settles κs a x y d e = read fault_in-one
 
 -- ---- book
 
 pub load-settles : SettlesResult Book.load.Reads.Learnt
-load-settles κs a x y d e = one
+load-settles κs a x y d e = read told-one
 
 pub empty-state-settles : SettlesResult Book.empty_state.Reads.Learnt
 empty-state-settles κs a x y d e = one
 
 -- ---- listing
 
--- a result told field by field
 pub render-settles : SettlesBoth Listing.render.Reads.Learnt (λ κs d. d.1.1.1.0.now)
-render-settles κs a x y d e p q = (λ i. record { number = one p.0 q.0 i; length = one p.1 q.1 i }, one p.2 q.2)
+render-settles κs a x y d e p q = (rendered-one x y (one p.0 q.0) (one p.1 q.1), one p.2 q.2)
 
 pub render-refused-settles : SettlesBoth Listing.render_refused.Reads.Learnt (λ κs d. d.1.1.0.now)
 render-refused-settles κs a x y d e = both

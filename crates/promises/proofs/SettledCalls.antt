@@ -1,15 +1,19 @@
 -- The calls and what they are made of: of each public function two outcomes that its contract allows are equal (as in `SettledGround`).
 use mathlib.Core.Path.{◌≡◌}
+use Rattle.refusal.proofs.NumberLaws.{said-one}
 use Rattle.capability.proofs as Capability
 use Rattle.view.proofs as View
 use Rattle.fields.proofs as Fields
 use Rattle.packet.proofs as Packet
 use Rattle.command.proofs as Command
+use Rattle.command.proofs.HeardLaws.{heard_in-one}
 use Rattle.gateway.proofs as Gateway
+use Rattle.gateway.proofs.HandedLaws.{changed_in-one, revoked_in-one, requested_in-one, commanded_in-one}
 use Rattle.client.proofs as Client
+use Rattle.client.proofs.OpenLaws.{opened_in-one}
 use Rattle.engine.proofs as Engine
 use Rattle.promises.specs.One.{Settles, SettlesResult, SettlesLent, SettlesBoth}
-use Rattle.promises.proofs.One.{one, both, turned}
+use Rattle.promises.proofs.One.{one, turned, read, read-both}
 
 -- ---- capability
 
@@ -24,10 +28,10 @@ pub right-secret-settles : SettlesResult Capability.right_secret.Reads.Learnt
 right-secret-settles κs a x y d e p q = λ i. record { secret = one p.0 q.0 i; blocks = one p.1 q.1 i }
 
 pub issue-settles : SettlesBoth Capability.issue.Reads.Learnt (λ κs d. d.1.1.0.now)
-issue-settles κs a x y d e = both
+issue-settles κs a x y d e = read-both said-one
 
 pub narrow-settles : SettlesBoth Capability.narrow.Reads.Learnt (λ κs d. d.1.1.0.now)
-narrow-settles κs a x y d e = both
+narrow-settles κs a x y d e = read-both said-one
 
 -- ---- view
 
@@ -72,35 +76,35 @@ packet-seal-settles κs a x y d e = turned
 -- ---- command
 
 pub hear-settles : SettlesBoth Command.hear.Reads.Learnt (λ κs d. d.1.1.1.0.now)
-hear-settles κs a x y d e = both
+hear-settles κs a x y d e = read-both heard_in-one
 
 -- ---- gateway
 
 pub request-settles : SettlesBoth Gateway.request.Reads.Learnt (λ κs d. d.1.1.1.1.1.0.now)
-request-settles κs a x y d e = both
+request-settles κs a x y d e = read-both (requested_in-one a.1.0)
 
 pub proof-settles : SettlesBoth Gateway.proof.Reads.Learnt (λ κs d. d.1.1.1.1.0.now)
-proof-settles κs a x y d e = both
+proof-settles κs a x y d e = read-both (changed_in-one a.1.0)
 
 pub command-settles : SettlesBoth Gateway.command.Reads.Learnt (λ κs d. d.1.1.1.0.now)
-command-settles κs a x y d e = both
+command-settles κs a x y d e = read-both (commanded_in-one a.1.0)
 
 pub reply-settles : SettlesBoth Gateway.reply.Reads.Learnt (λ κs d. d.1.1.1.1.1.0.now)
-reply-settles κs a x y d e = both
+reply-settles κs a x y d e = read-both (changed_in-one a.1.0)
 
 pub close-settles : SettlesResult Gateway.close.Reads.Learnt
-close-settles κs a x y d e = one
+close-settles κs a x y d e = read (changed_in-one a.1.0)
 
 pub revoke-settles : SettlesResult Gateway.revoke.Reads.Learnt
-revoke-settles κs a x y d e = one
+revoke-settles κs a x y d e = read (revoked_in-one a.0)
 
 -- ---- client
 
 pub seal-command-settles : SettlesBoth Client.seal_command.Reads.Learnt (λ κs d. d.1.1.1.1.1.0.now)
-seal-command-settles κs a x y d e = both
+seal-command-settles κs a x y d e = read-both said-one
 
 pub open-reply-settles : SettlesBoth Client.open_reply.Reads.Learnt (λ κs d. d.1.1.1.0.now)
-open-reply-settles κs a x y d e = both
+open-reply-settles κs a x y d e = read-both opened_in-one
 
 -- ---- engine
 

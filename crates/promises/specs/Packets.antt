@@ -3,7 +3,7 @@
 use Rattle.std.specs.Prelude.{ℕ, ◌-◌, ◌<◌, List, length, take}
 use Rattle.octets.specs.Room.{part}
 use Rattle.capability.specs.Bytes.{id_of, four_at, secret_of, capability}
-use Rattle.capability.specs.declared.Answer.{Answer}
+use Rattle.refusal.specs.Answer.{Answer}
 use Rattle.state.specs.declared.State.{State}
 use Rattle.fields.specs.Command.{client_of}
 use Rattle.fields.specs.declared.Order.{Order}

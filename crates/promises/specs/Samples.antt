@@ -8,9 +8,8 @@ use Rattle.capability.specs.Bytes.{id_of, four_at}
 use Rattle.capability.specs.Calls.{issued, narrow_refusal, narrowing}
 use Rattle.state.specs.declared.State.{State}
 use Rattle.state.specs.declared.transitions.Phase.TheVariants.{Open}
-use Rattle.grammar.specs.Faults.{fault, none}
+use Rattle.grammar.specs.Faults.{Fault, fault, none}
 use Rattle.grammar.specs.Checks.{fault_of}
-use Rattle.grammar.specs.declared.Fault.{Fault}
 use Rattle.view.specs.Phases.{fresh}
 use Rattle.client.specs.OpenReply.{opened}
 use Rattle.promises.specs.Counts.{words_in}

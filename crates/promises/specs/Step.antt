@@ -2,7 +2,7 @@
 -- the contracts as they stand in the source). Packets, fresh bytes and payloads are lent for reading, and their types forbid writing, so only the
 -- room is followed.
 use Rattle.std.specs.Prelude.{ℕ, List, [], length}
-use Rattle.capability.specs.declared.Answer as C
+use Rattle.refusal.specs.Answer as R
 use Rattle.state.specs.declared.State.{State}
 use Rattle.state.specs.declared.Rights.{Rights}
 use Rattle.state.specs.declared.Records.{Records}
@@ -42,7 +42,7 @@ lent (close h) = []
 lent (revoke i e w) = []
 
 -- an answer of number and count alone
-abbrev pub bare : C.Answer → List ℕ → Said
+abbrev pub bare : R.Answer → List ℕ → Said
 bare a room = record { number = a.number; blocks = a.blocks; host = 0; order = no_order; room = room }
 
 unfoldable pub answer : State → Call → Said

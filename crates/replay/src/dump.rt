@@ -1,68 +1,39 @@
 // The selected state as a line: counts, one record for each host, one word for each entry.
-use crate::output;
-use std::io;
+use crate::Player;
+use crate::output::Hex;
+use state::{Phase, State};
+use std::io::Read;
+use std::{fmt, io};
 
-fn owed_digit(owed: bool) -> u64 {
-    if owed { 1 } else { 0 }
-}
+#[derive(Clone, Copy)]
+struct Record(state::Record);
 
-fn record(to: &impl Print, r: state::Record) -> io::Result<()> {
-    let phase = r.phase;
-    match phase {
-        state::Phase::Idle => output::text(to, b" idle"),
-        state::Phase::Waiting => {
-            output::text(to, b" waiting:")?;
-            let challenge = r.challenge;
-            output::hex(to, &challenge)
-        }
-        state::Phase::Open { last, owed } => {
-            output::text(to, b" open:")?;
-            let key = r.key;
-            output::hex(to, &key)?;
-            output::text(to, b":")?;
-            output::number(to, last as u64)?;
-            output::text(to, b":")?;
-            output::number(to, owed_digit(owed))
+impl fmt::Display for Record {
+    fn fmt<W: fmt::Write>(&self, f: &mut fmt::Formatter<W>) -> fmt::Result {
+        let r = &self.0;
+        match r.phase {
+            Phase::Idle => write!(f, "idle"),
+            Phase::Waiting => write!(f, "waiting:{}", Hex(&r.challenge)),
+            Phase::Open { last, owed } => {
+                write!(f, "open:{}:{last}:{}", Hex(&r.key), u8::from(owed))
+            }
         }
     }
 }
 
-fn records(to: &impl Print, all: state::Records, n: u16) -> io::Result<()> {
-    let mut i: u16 = 0;
-    while i < n {
-        record(to, state::record_at(all, i as usize))?;
-        i += 1;
+impl<R: Read + Drop, P: Print + Drop> Player<R, P> {
+    pub(crate) fn dump(&self, s: &State) -> io::Result<()> {
+        let rights = &s.rights;
+        print!(self.to; "dump {} {}", rights.hosts, rights.interfaces)?;
+        for i in 0..rights.hosts {
+            let r = state::record_at(s.records, usize::from(i));
+            print!(self.to; " {}", Record(r))?;
+        }
+        for i in 0..rights.interfaces {
+            for j in 0..view::right_at(*rights, i + 1, 1).entries {
+                print!(self.to; " {}", view::right_at(*rights, i + 1, j + 1).word)?;
+            }
+        }
+        println!(self.to)
     }
-    Ok(())
-}
-
-// The words of one interface; there is none past the last entry.
-fn words(to: &impl Print, rights: state::Rights, interface: u16, n: u16) -> io::Result<()> {
-    let mut j: u16 = 0;
-    while j < n {
-        let f = view::right_at(rights, interface, j % 65535 + 1);
-        output::field(to, f.word)?;
-        j += 1;
-    }
-    Ok(())
-}
-
-fn interfaces(to: &impl Print, rights: state::Rights, n: u16) -> io::Result<()> {
-    let mut i: u16 = 0;
-    while i < n {
-        let f = view::right_at(rights, i % 65535 + 1, 1);
-        words(to, rights, i % 65535 + 1, f.entries)?;
-        i += 1;
-    }
-    Ok(())
-}
-
-pub(crate) fn dump(to: &impl Print, s: state::State) -> io::Result<()> {
-    let rights = s.rights;
-    output::text(to, b"dump")?;
-    output::field(to, rights.hosts as u64)?;
-    output::field(to, rights.interfaces as u64)?;
-    records(to, s.records, rights.hosts)?;
-    interfaces(to, rights, rights.interfaces)?;
-    output::text(to, b"\n")
 }

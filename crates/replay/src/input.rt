@@ -1,71 +1,54 @@
 // Fields of a call, read from the input one after the other. Past the end of the input, and where a read fails, they are 0 and empty.
-ghost use Rattle.std.specs.Prelude.{◌≤◌, ◌≡◌, length, take};
-
+use crate::Player;
+use crate::op::Op;
 use std::io::Read;
 
-// No byte string and no room is longer.
+// No byte string and no room is longer. Fixed buffers and no heap: so no read can run out of memory, and main needs no answer for that.
 pub(crate) const MOST: usize = 20000;
 
-// Reads until the buffer is full or the input ends, and answers how many bytes it got.
-fn read_full(from: &mut impl Read, buffer: &mut [u8]) -> usize
-    ensures { result ≤ length buffer.new }
-{
-    let mut done = 0;
-    while done < buffer.len() {
-        let n = match from.read(&mut buffer[done..]) {
-            Ok(n) => n,
-            Err(_) => 0,
-        };
-        if n == 0 {
-            break;
+impl<R: Read + Drop, P: Print + Drop> Player<R, P> {
+    fn bytes<const N: usize>(&mut self) -> [u8; N] {
+        let mut out = [0; N];
+        reading::read_full(&mut self.from, &mut out);
+        out
+    }
+
+    pub(crate) fn op(&mut self) -> Op {
+        Op::from(self.byte())
+    }
+
+    pub(crate) fn byte(&mut self) -> u8 {
+        u8::from_le_bytes(self.bytes())
+    }
+
+    pub(crate) fn half(&mut self) -> u16 {
+        u16::from_le_bytes(self.bytes())
+    }
+
+    pub(crate) fn word(&mut self) -> u64 {
+        u64::from_le_bytes(self.bytes())
+    }
+
+    // The length of a byte string or a room. `as`: std has no From<u32> for usize.
+    fn size(&mut self) -> usize {
+        u32::from_le_bytes(self.bytes()) as usize
+    }
+
+    // A byte string, at the start of the buffer; the empty one where it is longer.
+    pub(crate) fn string<'b>(&mut self, buffer: &'b mut [u8]) -> &'b [u8] {
+        let mut size = self.size();
+        if buffer.len() < size {
+            size = 0;
         }
-        done += n;
+        let n = reading::read_full(&mut self.from, &mut buffer[..size]);
+        &buffer[..n]
     }
-    done
-}
 
-// The next call's opcode; 0 where the input ends.
-pub(crate) fn opcode(from: &mut impl Read) -> u8 {
-    byte(from)
-}
-
-pub(crate) fn byte(from: &mut impl Read) -> u8 {
-    let mut b = [0u8; 1];
-    read_full(from, &mut b);
-    b[0]
-}
-
-pub(crate) fn half(from: &mut impl Read) -> u16 {
-    let mut b = [0u8; 2];
-    read_full(from, &mut b);
-    octets::u16_at(&b, 0)
-}
-
-fn quarter(from: &mut impl Read) -> u32 {
-    let mut b = [0u8; 4];
-    read_full(from, &mut b);
-    octets::u32_at(&b, 0)
-}
-
-pub(crate) fn word(from: &mut impl Read) -> u64 {
-    let mut b = [0u8; 8];
-    read_full(from, &mut b);
-    octets::u64_at(&b, 0)
-}
-
-// The length of a room that is lent: at most what this program has.
-pub(crate) fn size(from: &mut impl Read, room: &[u8]) -> usize
-    ensures { (result ≤ length room.now) × (result ≡ length (take result room.now)) }
-{
-    let n = quarter(from) as usize;
-    n.min(room.len())
-}
-
-// A byte string at the start of a buffer; its length is the result.
-pub(crate) fn string(from: &mut impl Read, buffer: &mut [u8]) -> usize {
-    let n = quarter(from) as usize;
-    if buffer.len() < n {
-        return 0;
+    // A room that is lent, at the start of the buffer: at most what there is.
+    pub(crate) fn room<'b>(&mut self, buffer: &'b mut [u8]) -> &'b mut [u8] {
+        let size = self.size().min(buffer.len());
+        let room = &mut buffer[..size];
+        room.fill(0xa5);
+        room
     }
-    read_full(from, &mut buffer[..n])
 }

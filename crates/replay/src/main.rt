@@ -9,67 +9,49 @@ mod dump;
 mod input;
 mod keeper;
 mod machine;
+mod op;
 mod output;
 mod poke;
 mod server;
 
+use op::Op;
 use std::io;
-use std::io::Read;
 
-// Performs one call on the selected state, and hands the state back.
-fn perform(
-    from: &mut impl Read,
-    to: &impl Print,
-    op: u8,
-    s: state::State,
-) -> io::Result<state::State> {
-    if op < 4 {
-        return keeper::handshake(from, to, op, s);
-    }
-    if op < 8 {
-        return server::connection(from, to, op, s);
-    }
-    if op < 12 {
-        machine::client(from, to, op)?;
-        return Ok(s);
-    }
-    if op == 17 {
-        return Ok(poke::poke(from, s));
-    }
-    if op == 16 {
-        dump::dump(to, s)?;
-        return Ok(s);
-    }
-    output::note(from, to)?;
-    Ok(s)
+// The trace is read from one side, and its lines are printed to the other.
+#[derive(Drop)]
+pub(crate) struct Player<R: Drop, P: Drop> {
+    from: R,
+    to: P,
 }
 
-// The slot that a call selects.
-fn slot(from: &mut impl Read) -> usize {
-    input::byte(from) as usize
-}
-
-// A proved loop has to end, and nothing says that a trace does: the loop counts its turns down, from a number that no trace uses up.
+// A proved loop has to end, and nothing says that a trace does: no trace has so many calls.
 fn main(rt: HostRuntime) -> io::Result<()> {
-    let mut from = rt.stdin();
-    let start = book::empty_state();
-    let mut slots = [start; 4];
-    let mut selected: usize = 0;
-    let mut turns = u64::MAX;
-    while turns > 0 {
-        let op = input::opcode(&mut from);
-        if op == 0 {
-            return Ok(());
+    let mut player = Player {
+        from: rt.stdin(),
+        to: rt,
+    };
+    let mut slots = [book::empty_state(); 4];
+    let mut selected: u8 = 0;
+    for _ in 0..u64::MAX {
+        let s = &mut slots[usize::from(selected % 4)];
+        match player.op() {
+            Op::End => break,
+            Op::Load => player.load(s)?,
+            Op::Request => player.request(s)?,
+            Op::Proof => player.proof(s)?,
+            Op::Command => player.command(s)?,
+            Op::Reply => player.reply(s)?,
+            Op::Close => player.close(s)?,
+            Op::Revoke => player.revoke(s)?,
+            Op::Issue => player.issue()?,
+            Op::Narrow => player.narrow()?,
+            Op::Seal => player.seal()?,
+            Op::Open => player.open()?,
+            Op::Dump => player.dump(s)?,
+            Op::Poke => player.poke(s),
+            Op::Select => selected = player.byte(),
+            Op::Note => player.note()?,
         }
-        if op == 18 {
-            selected = slot(&mut from);
-        } else {
-            let at = selected % 4;
-            let s = slots[at];
-            let t = perform(&mut from, &rt, op, s)?;
-            slots[at] = t;
-        }
-        turns -= 1;
     }
     Ok(())
 }

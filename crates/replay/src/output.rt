@@ -1,103 +1,81 @@
-// Parts of lines, written to the output.
-use crate::input;
-use std::io;
+// Parts of lines, and the lines that are alike.
+use crate::Player;
+use crate::input::MOST;
+use refusal::Refused;
 use std::io::Read;
-
-pub(crate) fn text(to: &impl Print, s: &[u8]) -> io::Result<()> {
-    to.write_all(s)
-}
-
-pub(crate) fn number(to: &impl Print, n: u64) -> io::Result<()> {
-    to.print(n)
-}
-
-// A space and a number.
-pub(crate) fn field(to: &impl Print, n: u64) -> io::Result<()> {
-    text(to, b" ")?;
-    number(to, n)
-}
-
-// The digit of a number below 16.
-fn digit(n: u8) -> u8 {
-    if n < 10 { b'0' + n } else { b'a' + n % 16 - 10 }
-}
+use std::{fmt, io};
 
 // Bytes, two digits each.
-pub(crate) fn hex(to: &impl Print, bytes: &[u8]) -> io::Result<()> {
-    let mut i: usize = 0;
-    while i < bytes.len() {
-        let b = bytes[i];
-        text(to, &[digit(b / 16), digit(b % 16)])?;
-        i += 1;
-    }
-    Ok(())
-}
+#[derive(Clone, Copy)]
+pub(crate) struct Hex<'a>(pub(crate) &'a [u8]);
 
-// One byte more in a sum: exclusive-or it in, then multiply modulo 2^32.
-fn summed(h: u32, b: u8) -> u32 {
-    let x = (h as u64 ^ b as u64) % 4294967296;
-    let y = x * 16777619 % 4294967296;
-    y as u32
+impl fmt::Display for Hex<'_> {
+    fn fmt<W: fmt::Write>(&self, f: &mut fmt::Formatter<W>) -> fmt::Result {
+        for b in self.0 {
+            write!(f, "{b:02x}")?;
+        }
+        Ok(())
+    }
 }
 
 // 32-bit FNV-1a of bytes.
 fn sum(bytes: &[u8]) -> u32 {
-    let mut h: u32 = 2166136261;
-    let mut i: usize = 0;
-    while i < bytes.len() {
-        h = summed(h, bytes[i]);
-        i += 1;
+    bytes.iter().fold(
+        2166136261,
+        |h, b| (h ^ u32::from(*b)).wrapping_mul(16777619),
+    )
+}
+
+// A room after a call that wrote n bytes: these, `-` where that is no byte, and the sum of the whole room.
+#[derive(Clone, Copy)]
+pub(crate) struct Room<'a> {
+    pub(crate) bytes: &'a [u8],
+    pub(crate) written: usize,
+}
+
+impl fmt::Display for Room<'_> {
+    fn fmt<W: fmt::Write>(&self, f: &mut fmt::Formatter<W>) -> fmt::Result {
+        if self.written == 0 {
+            write!(f, "-")?;
+        } else {
+            write!(f, "{}", Hex(octets::part(self.bytes, 0, self.written)))?;
+        }
+        write!(f, " {:08x}", sum(self.bytes))
     }
-    h
 }
 
-fn eight_digits(to: &impl Print, n: u32) -> io::Result<()> {
-    let b = [
-        (n / 16777216 % 256) as u8,
-        (n / 65536 % 256) as u8,
-        (n / 256 % 256) as u8,
-        (n % 256) as u8,
-    ];
-    hex(to, &b)
-}
+// How each answer begins: with the number, and the blocks counted.
+#[derive(Clone, Copy)]
+pub(crate) struct Said(pub(crate) Result<usize, Refused>);
 
-// What was written, `-` where that is no byte, and the sum of the whole room; then the line ends.
-pub(crate) fn room(to: &impl Print, bytes: &[u8], written: usize) -> io::Result<()> {
-    text(to, b" ")?;
-    if written == 0 {
-        text(to, b"-")?;
-    } else {
-        hex(to, octets::part(bytes, 0, written))?;
+impl fmt::Display for Said {
+    fn fmt<W: fmt::Write>(&self, f: &mut fmt::Formatter<W>) -> fmt::Result {
+        match self.0 {
+            Ok(blocks) => write!(f, "0 {blocks}"),
+            Err(Refused { why, blocks }) => write!(f, "{} {blocks}", why.number()),
+        }
     }
-    text(to, b" ")?;
-    eight_digits(to, sum(bytes))?;
-    text(to, b"\n")
 }
 
-// How many bytes an accepted call wrote; none on a refusal.
-pub(crate) fn if_accepted(number: u8, n: usize) -> usize {
-    if number == 0 { n } else { 0 }
-}
+impl<R: Read + Drop, P: Print + Drop> Player<R, P> {
+    // The line of a call that answers number and blocks alone, and writes n bytes where it is accepted.
+    pub(crate) fn answer(
+        &self,
+        name: &str,
+        said: Result<usize, Refused>,
+        bytes: &[u8],
+        n: usize,
+    ) -> io::Result<()> {
+        let written = if said.is_ok() { n } else { 0 };
+        println!(self.to; "{name} {} {}", Said(said), Room { bytes, written })
+    }
 
-// The line of a call that answers number and blocks alone and writes n bytes.
-pub(crate) fn answer(
-    to: &impl Print,
-    name: &[u8],
-    said: capability::Answer,
-    bytes: &[u8],
-    n: usize,
-) -> io::Result<()> {
-    text(to, name)?;
-    field(to, said.number as u64)?;
-    field(to, said.blocks as u64)?;
-    room(to, bytes, if_accepted(said.number, n))
-}
-
-// A note's text, as a line.
-pub(crate) fn note(from: &mut impl Read, to: &impl Print) -> io::Result<()> {
-    let mut buffer = [0u8; input::MOST];
-    let n = input::string(from, &mut buffer);
-    text(to, b"# ")?;
-    text(to, octets::part(&buffer, 0, n))?;
-    text(to, b"\n")
+    // A note's text, as a line.
+    pub(crate) fn note(&mut self) -> io::Result<()> {
+        let mut buffer = [0; MOST];
+        let text = self.string(&mut buffer);
+        self.to.write_all(b"# ")?;
+        self.to.write_all(text)?;
+        self.to.write_all(b"\n")
+    }
 }

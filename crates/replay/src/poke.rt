@@ -1,90 +1,81 @@
 // Stores into the selected state without any check: this makes the states that nobody loaded. Places past the arrays are let be.
-use crate::input;
+use crate::Player;
+use state::State;
 use std::io::Read;
 
-fn set16(values: &mut [u16], i: usize, x: u16) {
-    if i < values.len() {
-        values[i] = x;
+enum What {
+    Hosts,
+    Interfaces,
+    Size,
+    Span,
+    Commands,
+    Entries,
+    Word,
+    Name,
+}
+
+impl TryFrom<u8> for What {
+    type Error = ();
+
+    fn try_from(what: u8) -> Result<What, ()> {
+        match what {
+            1 => Ok(What::Hosts),
+            2 => Ok(What::Interfaces),
+            3 => Ok(What::Size),
+            4 => Ok(What::Span),
+            5 => Ok(What::Commands),
+            6 => Ok(What::Entries),
+            7 => Ok(What::Word),
+            8 => Ok(What::Name),
+            _ => Err(()),
+        }
+    }
+}
+
+fn set(values: &mut [u16], i: Option<usize>, x: u16) {
+    let Some(i) = i else { return };
+    if let Some(v) = values.get_mut(i) {
+        *v = x;
     }
 }
 
 // Host, interface and entry numbers count from 1; 0 is no place.
-fn place(n: u16) -> usize {
-    if n == 0 { 65536 } else { n as usize - 1 }
-}
-
-fn counts(rights: state::Rights, what: u8, i: usize, x: u16) -> state::Rights {
-    let mut r = rights;
-    if what == 1 {
-        r.hosts = x;
-    }
-    if what == 2 {
-        r.interfaces = x;
-    }
-    let mut sizes = rights.sizes;
-    if what == 3 {
-        set16(&mut sizes, i, x);
-    }
-    r.sizes = sizes;
-    let mut spans = rights.spans;
-    if what == 4 {
-        set16(&mut spans, i, x);
-    }
-    r.spans = spans;
-    r
-}
-
-fn interface(rights: state::Rights, what: u8, i: usize, x: u16) -> state::Rights {
-    let mut r = rights;
-    let mut commands = rights.commands;
-    if what == 5 {
-        set16(&mut commands, i, x);
-    }
-    r.commands = commands;
-    let mut entries = rights.entries;
-    if what == 6 {
-        set16(&mut entries, i, x);
-    }
-    r.entries = entries;
-    r
+fn place(n: u16) -> Option<usize> {
+    usize::from(n).checked_sub(1)
 }
 
 // The name of host i is made that of host k.
-fn rename(s: state::State, i: usize, k: usize) -> state::State {
-    if 32 <= i {
-        return s;
+fn rename(s: &mut State, i: Option<usize>, k: Option<usize>) {
+    let (Some(i), Some(k)) = (i, k) else { return };
+    if i < 32 && k < 32 {
+        s.rights.sizes[i] = s.rights.sizes[k];
+        s.names.copy_within(k * 256..k * 256 + 256, i * 256);
     }
-    if 32 <= k {
-        return s;
-    }
-    let mut t = s;
-    let mut rights = s.rights;
-    let mut sizes = rights.sizes;
-    sizes[i] = sizes[k];
-    rights.sizes = sizes;
-    t.rights = rights;
-    let old = s.names;
-    let mut names = s.names;
-    octets::put(&mut names, i * 256, octets::part(&old, k * 256, 256));
-    t.names = names;
-    t
 }
 
-pub(crate) fn poke(from: &mut impl Read, s: state::State) -> state::State {
-    let what = input::byte(from);
-    let i = place(input::half(from));
-    let k = place(input::half(from));
-    let value = input::word(from);
-    if what == 8 {
-        return rename(s, i, k);
+impl<R: Read + Drop, P: Print + Drop> Player<R, P> {
+    pub(crate) fn poke(&mut self, s: &mut State) {
+        let what = What::try_from(self.byte());
+        let i = place(self.half());
+        let k = place(self.half());
+        let value = self.word();
+        // `as`, meant to cut off: a value for a u16 is its low sixteen bits.
+        let x = (value & 0xffff) as u16;
+        let r = &mut s.rights;
+        match what {
+            Ok(What::Hosts) => r.hosts = x,
+            Ok(What::Interfaces) => r.interfaces = x,
+            Ok(What::Size) => set(&mut r.sizes, i, x),
+            Ok(What::Span) => set(&mut r.spans, i, x),
+            Ok(What::Commands) => set(&mut r.commands, i, x),
+            Ok(What::Entries) => set(&mut r.entries, i, x),
+            Ok(What::Word) => {
+                if let (Some(i), Some(k)) = (i, k) {
+                    *r = state::with_word(*r, i, k, value);
+                }
+            }
+            Ok(What::Name) => rename(s, i, k),
+            Err(()) => {}
+        }
     }
-    let x = (value % 65536) as u16;
-    let mut t = s;
-    if what == 7 {
-        t.rights = state::with_word(s.rights, i, k, value);
-        return t;
-    }
-    let first = counts(s.rights, what, i, x);
-    t.rights = interface(first, what, i, x);
-    t
 }

@@ -1,21 +1,28 @@
--- A test that passes at each number below n.
+-- A test that passes at each number below n, and the run of `0..n` on which `(0..n).all(..)` answers it.
 use mathlib.Core.Path.{◌≡◌, refl, sym}
-use mathlib.Core.Bool.{Bool, true, false, not, ◌&&◌}
+use mathlib.Core.Bool.{Bool, true, false, not, ◌&&◌, and-true}
 use mathlib.Core.Logic.{⊎_elim}
 use Prim.Native.Nat.{ℕ, zero, suc, ◌+◌, ◌≤◌, ◌<◌}
-use native.Mathlib.Nat.{eq-or-lt_of_le, le_of_suc-le-suc, not-suc-le-zero}
+use native.Mathlib.Nat.{add-zero, zero-add, sub-zero, eq-or-lt_of_le, le_of_suc-le-suc, not-suc-le-zero}
 use native.Mathlib.Numerals.{add-one}
 use native.Mathlib.Omega.{arith}
-use Rattle.octets.proofs.CheckLaws.{no, yes, and_left, and_right, and_both}
+use Rattle.std.specs.declared.ops.Range.{Range}
+use Rattle.std.proofs.iter.Yields.{nat_range_steps}
+use Rattle.std.proofs.lemmas.Iterator.{YieldsList, YieldsList-from_range}
+use Rattle.std.specs.List.{list_all, range_with_len}
+use Rattle.octets.proofs.CheckLaws.{yes, and_left, and_right, and_both}
 use Rattle.state.specs.Sound.{all_below}
 
-and-false : (a b : Bool) → b ≡ false → (a && b) ≡ false
-and-false true b e = e
-and-false false b e = refl
+and-assoc : (a b d : Bool) → (a && (b && d)) ≡ ((a && b) && d)
+and-assoc true b d = refl
+and-assoc false b d = refl
 
--- a loop that returns at `if !f(i)` has passed i of n
+-- the test has passed at i of n numbers
 abbrev pub Passed : (ℕ → Bool) → ℕ → ℕ → Type 0
 Passed f n i = (i ≤ n) × (all_below f i ≡ true)
+
+pub counted : (n : ℕ) {s : Range ℕ} → s ≡ record { start = 0; end = n } → YieldsList nat_range_steps (λ x. x) s (range_with_len 0 n)
+counted n e = YieldsList-from_range 0 n n e (sub-zero n)
 
 module _ (f : ℕ → Bool) where
   pub below_all : (n : ℕ) → all_below f n ≡ true → (i : ℕ) → i < n → f i ≡ true
@@ -30,13 +37,19 @@ module _ (f : ℕ → Bool) where
   all-below zero h = refl
   all-below (suc n) h = and_both (all_below f n) (f n) (all-below n (λ i l. h i (omega arith))) (h n (omega arith))
 
-  fails : (n i : ℕ) → i < n → f i ≡ false → all_below f n ≡ false
-  unfolding all_below
-  fails zero i l e = absurd (not-suc-le-zero l)
-  fails (suc n) i l e =
-      ⊎_elim (λ q. and-false (all_below f n) (f n) (rw q at e)) (λ m. rw (fails n i m e)) (eq-or-lt_of_le (le_of_suc-le-suc l))
+  -- one number more at the end
+  last : (a n : ℕ) → list_all f (range_with_len a (suc n)) ≡ (list_all f (range_with_len a n) && f (a + n))
+  last a zero = rw add-zero (and-true (f a))
+  last a (suc n) =
+      let e : a + 1 + n ≡ a + suc n = omega arith in
+      rw (last (a + 1) n, e) (and-assoc (f a) (list_all f (range_with_len (a + 1) n)) (f (a + suc n)))
 
-  -- it starts, it passes i, it returns there, or it ends
+  pub all-range : (n : ℕ) → list_all f (range_with_len 0 n) ≡ all_below f n
+  unfolding all_below
+  all-range zero = refl
+  all-range (suc n) = rw (← all-range n) (rw (zero-add n) at (last 0 n))
+
+  -- so a loop that returns at `if !f(i)` starts, passes i, and ends
   pub all_none : (n : ℕ) → Passed f n 0
   unfolding all_below
   all_none n = (omega arith, refl)
@@ -44,9 +57,6 @@ module _ (f : ℕ → Bool) where
   pub all_more : (n i : ℕ) {r : Bool} → i < n → all_below f i ≡ true → r ≡ f i → not r ≡ false → Passed f n (i + 1)
   unfolding all_below
   all_more n i l h e t = (omega arith, rw add-one (and_both (all_below f i) (f i) h (yes e t)))
-
-  pub all-stop : (n i : ℕ) {r : Bool} → i < n → r ≡ f i → not r ≡ true → false ≡ all_below f n
-  all-stop n i l e t = sym (fails n i l (no e t))
 
   pub all_done : (n i : ℕ) → n ≤ i → Passed f n i → true ≡ all_below f n
   all_done n i l p = let e : i ≡ n = omega arith in sym (rw e at p.1)

@@ -1,4 +1,4 @@
 pub mod BelowLaws
 pub mod RecordLaws
-pub mod ShutLaws
 pub mod SoundLaws
+pub mod ShutLaws

@@ -4,12 +4,13 @@ use mathlib.Core.Path.{◌≡◌, refl, sym, ◌∙◌}
 use mathlib.Core.Bool.{Bool, true, false}
 use mathlib.Core.Logic.{◌≢◌}
 use mathlib.Core.List.{List}
-use Prim.Native.Nat.{ℕ, zero, suc, ◌+◌, ◌*◌, ◌≤◌, ◌<◌}
+use Prim.Native.Nat.{ℕ, ◌*◌, ◌-◌, ◌<◌}
 use native.Mathlib.Omega.{arith}
 use borrow.Author.Tests.{lt-ltb, ltb-true, ltb-false}
 use lib.Dec.{ltb}
-use lib.ListN.{length, take, replicate, length-set, get_or-replicate}
+use lib.ListN.{length, length-set, get_or-replicate}
 use lib.Seq.{get_or-set_same, get_or-set_other}
+use Rattle.std.proofs.lemmas.List.{take-replicate, drop-replicate}
 use Rattle.octets.specs.Room.{part, over, placed}
 use Rattle.octets.proofs.RoomLaws.{length_part, placed-fits, length-placed, part_placed, part-before, part-after}
 use Rattle.state.specs.declared.transitions.Phase.{Phase}
@@ -98,17 +99,6 @@ module _ (s : Records) (i : ℕ) (r : Record) where
       ))
       refl
 
--- a part of zeros
-take-zeros : (size n : ℕ) → size ≤ n → take size (replicate {A = ℕ} n 0) ≡ replicate size 0
-take-zeros zero n h = refl
-take-zeros (suc size) zero h = absurd (omega arith)
-take-zeros (suc size) (suc n) h = rw (take-zeros size n (omega arith))
-
-part-zeros : (at size n : ℕ) → at + size ≤ n → part (replicate n 0) at size ≡ replicate size 0
-part-zeros zero size n h = take-zeros size n (omega arith)
-part-zeros (suc at) size zero h = absurd (omega arith)
-part-zeros (suc at) size (suc n) h = part-zeros at size n (omega arith)
-
 pub sized-idle : Sized idle_records
 unfolding idle_records
 sized-idle = record { tags = refl; lasts = refl; challenges = refl; keys = refl }
@@ -117,5 +107,5 @@ pub idle-all : (i : ℕ) → record_of idle_records i ≡ closed
 unfolding idle_records
 idle-all i =
     record-ind idle_records i (λ r. r ≡ closed)
-    (λ l. rw (get_or-replicate {A = ℕ} 32 i 0 0 l, part-zeros (i * 16) 16 512 (omega arith)))
+    (λ l. rw (get_or-replicate {A = ℕ} 32 i 0 0 l, drop-replicate {X = ℕ} (i * 16) 512 0, take-replicate {X = ℕ} 16 (512 - i * 16) 0 (omega arith)))
     refl

@@ -14,7 +14,8 @@ pub use flat::{idle_records, no_rights, record_at, with_record, with_word};
 pub use soundness::sound;
 pub use transitions::{Phase, Record};
 
-// What the book says of hosts and interfaces, but their names. Entry j of interface i stands at 16 i + j, and the master secret
+// What the book says of hosts and interfaces, but their names. Arrays stand beside one another, and not structs in one array: document 01
+// asks for flat arrays, and C reads them so. Entry j of interface i stands at 16 i + j, and the master secret
 // of interface i at 16 i.
 #[repr(C)]
 #[derive(Clone, Copy)]

@@ -8,50 +8,19 @@
 #![tactic(auto)]
 
 mod examples;
-mod hex;
 mod published;
 
-use crate::examples::{encryption, prepared, round_trip};
-use crate::published::*;
-use std::io;
+use crate::published::{ENCRYPTIONS, SEALINGS};
 
-fn main(rt: HostRuntime) -> io::Result<()> {
-    fips_197(&rt)?;
-    mcgrew_viega(&rt)?;
-    nist(&rt)
-}
-
-fn fips_197(to: &impl Print) -> io::Result<()> {
-    encryption(to, b"fips_197_b", &FIPS_B_KEY, &FIPS_B_INPUT)?;
-    encryption(to, b"fips_197_c1", &FIPS_C1_KEY, &FIPS_C1_INPUT)?;
-    prepared(to, b"fips_197_b_prepared", &FIPS_B_KEY, &FIPS_B_INPUT)?;
-    prepared(to, b"fips_197_c1_prepared", &FIPS_C1_KEY, &FIPS_C1_INPUT)
-}
-
-fn mcgrew_viega(to: &impl Print) -> io::Result<()> {
-    round_trip(to, b"mcgrew_viega_1", &ZERO_BLOCK, &ZERO_IV, b"", b"")?;
-    round_trip(
-        to,
-        b"mcgrew_viega_2",
-        &ZERO_BLOCK,
-        &ZERO_IV,
-        b"",
-        &ZERO_BLOCK,
-    )?;
-    round_trip(to, b"mcgrew_viega_3", &MV_KEY, &MV_IV, b"", &MV_TEXT_3)?;
-    round_trip(to, b"mcgrew_viega_4", &MV_KEY, &MV_IV, &MV_DATA, &MV_TEXT_4)
-}
-
-fn nist(to: &impl Print) -> io::Result<()> {
-    round_trip(to, b"nist_a", &NIST_A_KEY, &NIST_A_IV, b"", b"")?;
-    round_trip(to, b"nist_b", &NIST_B_KEY, &NIST_B_IV, b"", &NIST_B_TEXT)?;
-    round_trip(to, b"nist_c", &NIST_C_KEY, &NIST_C_IV, &NIST_C_DATA, b"")?;
-    round_trip(
-        to,
-        b"nist_d",
-        &NIST_D_KEY,
-        &NIST_D_IV,
-        &NIST_D_DATA,
-        &NIST_D_TEXT,
-    )
+fn main(rt: HostRuntime) -> anyhow::Result<()> {
+    for example in &ENCRYPTIONS {
+        example.run(&rt)?;
+    }
+    for example in &ENCRYPTIONS {
+        example.run_prepared(&rt)?;
+    }
+    for example in &SEALINGS {
+        example.run(&rt)?;
+    }
+    Ok(())
 }

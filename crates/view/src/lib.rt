@@ -9,18 +9,20 @@ ghost use Rattle.view.specs.Counted.{no_such, place};
 ghost use Rattle.view.specs.View.{see};
 ghost use Rattle.view.specs.Right.{right_of};
 
-// What a call about a host sees.
-#[derive(Clone, Copy)]
+use state::{Record, Records, Rights};
+
+// What a call about a host sees. `good` is no test of the other fields: they are there in a state that isn't sound too.
+#[derive(Clone, Copy, Debug, PartialEq, Eq)]
 pub struct View {
     pub good: bool,
     pub hosts: u16,
     pub interfaces: u16,
     pub group: u16,
-    pub held: state::Record,
+    pub held: Record,
 }
 
 // What a command sees of the interface that it names, and of the entry.
-#[derive(Clone, Copy)]
+#[derive(Clone, Copy, Debug, PartialEq, Eq)]
 pub struct Right {
     pub commands: u16,
     pub entries: u16,
@@ -30,74 +32,74 @@ pub struct Right {
 }
 
 // Whether there is no thing of that number: they are counted from 1.
+#[tactic(auto, unfolding(crate::specs::Counted::no_such))]
 pub fn no_such(n: u16, count: u16) -> bool
     ensures { result ≡ no_such n count }
 {
-    if n == 0 {
-        return true;
-    }
-    count < n
+    n == 0 || count < n
 }
 
-// Where thing n stands, from 0 on; `past` if there is no such thing.
+// Where thing n stands, from 0 on; `past` if there is no such thing. It is no Option, since `place` of specs/Counted has it so: what stands past
+// the end of an array reads as 0.
+#[tactic(auto, unfolding(crate::specs::Counted::place))]
 fn place_of(n: u16, count: u16, past: usize) -> usize
     ensures { result ≡ place n count past }
 {
     if no_such(n, count) {
         return past;
     }
-    n as usize - 1
+    usize::from(n) - 1
 }
 
-fn number_at(values: &[u16], i: usize) -> u16
-    ensures { result ≡ get_or values.now i 0 }
+// The value at place i, and `past` beyond the last.
+fn value_at<T: Copy>(values: &[T], i: usize, past: T) -> T
+    ensures { result ≡ get_or values.now i past }
 {
-    if i < values.len() { values[i] } else { 0 }
-}
-
-fn word_at(values: &[u64], i: usize) -> u64
-    ensures { result ≡ get_or values.now i 0 }
-{
-    if i < values.len() { values[i] } else { 0 }
+    values.get(i).copied().unwrap_or(past)
 }
 
 // What a call about that host sees.
-pub fn see(rights: state::Rights, records: state::Records, host: u16) -> View
+#[tactic(auto, unfolding(crate::specs::View::see))]
+pub fn see(rights: Rights, records: Records, host: u16) -> View
     ensures { result ≡ see rights records host }
 {
-    let hosts = rights.hosts;
-    let interfaces = rights.interfaces;
-    let groups = rights.groups;
+    let Rights {
+        hosts,
+        interfaces,
+        groups,
+        ..
+    } = rights;
     let at = place_of(host, hosts, 32);
-    let good = state::sound(rights);
-    let group = number_at(&groups, at);
-    let held = state::record_at(records, at);
     View {
-        good: good,
-        hosts: hosts,
-        interfaces: interfaces,
-        group: group,
-        held: held,
+        good: state::sound(rights),
+        hosts,
+        interfaces,
+        group: value_at(&groups, at, 0),
+        held: state::record_at(records, at),
     }
 }
 
 // Entry e of interface i, and what the interface says of itself.
-pub fn right_at(rights: state::Rights, interface: u16, entry: u16) -> Right
+#[tactic(auto, unfolding(crate::specs::Right::right_of))]
+pub fn right_at(rights: Rights, interface: u16, entry: u16) -> Right
     ensures { result ≡ right_of rights interface entry }
 {
-    let entries = rights.entries;
-    let commands = rights.commands;
-    let owners = rights.owners;
-    let words = rights.words;
-    let secrets = rights.secrets;
+    let Rights {
+        words,
+        commands,
+        entries,
+        owners,
+        secrets,
+        ..
+    } = rights;
     let i = place_of(interface, rights.interfaces, 8);
-    let count = number_at(&entries, i);
+    let count = value_at(&entries, i, 0);
     let k = i * 16 + place_of(entry, count, 128);
     Right {
-        commands: number_at(&commands, i),
+        commands: value_at(&commands, i, 0),
         entries: count,
-        owner: number_at(&owners, k),
-        word: word_at(&words, k),
-        secret: octets::sixteen(&secrets, i * 16),
+        owner: value_at(&owners, k, 0),
+        word: value_at(&words, k, 0),
+        secret: octets::bytes_at(&secrets, i * 16),
     }
 }

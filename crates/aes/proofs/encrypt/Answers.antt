@@ -10,5 +10,5 @@ pub returns : goal.returns
 returns c =
     let a = c.args in
     c.encrypt_prepared.ensures
-    ∙ ap (λ (p : List ℕ). under p a.block) c.prepare-p.ensures
+    ∙ ap (λ (p : List ℕ). under p a.block) c.prepare.ensures
     ∙ under-prepared a.key a.block

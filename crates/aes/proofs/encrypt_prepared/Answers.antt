@@ -5,6 +5,6 @@ use Rattle.aes.proofs.encrypt_prepared.Goals as goal
 
 pub returns : goal.returns
 returns c =
-    c.store.ensures
+    c.into.ensures
     ∙ c.rounds.ensures
-    ∙ ap (under c.args.p.now) c.load.ensures
+    ∙ ap (under c.args.p.now) c.from.ensures

@@ -4,4 +4,4 @@ use Rattle.aes.specs.Prepared.{prepared}
 use Rattle.aes.proofs.prepare.Goals as goal
 
 pub returns : goal.returns
-returns c = c.expand.ensures ∙ ap prepared c.load.ensures
+returns c = c.expand.ensures ∙ ap prepared c.from.ensures

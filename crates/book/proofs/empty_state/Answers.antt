@@ -4,4 +4,4 @@ use Rattle.book.proofs.empty_state.Goals as goal
 
 pub returns : goal.returns
 unfolding empty_state
-returns c = rw (c.no_rights-rights.ensures, c.idle_records-records.ensures)
+returns c = rw (c.no_rights.ensures, c.idle_records.ensures)

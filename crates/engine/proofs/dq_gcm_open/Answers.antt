@@ -1,22 +1,22 @@
--- `engine::dq_gcm_open` meets its contract: each arm of the match hands out its variant's number and count.
-use mathlib.Core.Path.{sym, ap, ◌∙◌}
+-- `engine::dq_gcm_open` meets its contract: each arm of the match hands out its number and count.
+use mathlib.Core.Path.{ap, ◌∙◌}
 use Rattle.gcm.specs.Answers.{open_number, open_blocks}
 use Rattle.engine.proofs.dq_gcm_open.Goals as goal
 
-pub returns-in-Short : goal.returns-in-Short
+pub returns-in-Ok : goal.returns-in-Ok
 unfolding open_number open_blocks
-returns-in-Short c =
-    let short = sym c.in-Short.is ∙ c.open-o.ensures.0 in
-    (ap open_number short, ap open_blocks short, c.open-o.ensures.1)
+returns-in-Ok c =
+    let plain = c.in-Ok.ensures in
+    (ap open_number plain.0, ap open_blocks plain.0, plain.1)
 
-pub returns-in-Fail : goal.returns-in-Fail
+pub returns-in-Err-Short : goal.returns-in-Err-Short
 unfolding open_number open_blocks
-returns-in-Fail c =
-    let fail = sym c.in-Fail.is ∙ c.open-o.ensures.0 in
-    (ap open_number fail, ap open_blocks fail, c.open-o.ensures.1)
+returns-in-Err-Short c =
+    let short = rw c.in-Err-Short.field-0-is at c.in-Err-Short.ensures in
+    (c.number.ensures ∙ ap open_number short.0, ap open_blocks short.0, short.1)
 
-pub returns-in-Plain : goal.returns-in-Plain
+pub returns-in-Err-TagWrong : goal.returns-in-Err-TagWrong
 unfolding open_number open_blocks
-returns-in-Plain c =
-    let plain = sym c.in-Plain.is ∙ c.open-o.ensures.0 in
-    (ap open_number plain, ap open_blocks plain, c.open-o.ensures.1)
+returns-in-Err-TagWrong c =
+    let fail = rw c.in-Err-TagWrong.field-0-is at c.in-Err-TagWrong.ensures in
+    (c.number-in-Err-TagWrong.ensures ∙ ap open_number fail.0, ap open_blocks fail.0, fail.1)

@@ -1,12 +1,10 @@
 -- `engine::dq_gcm_seal` meets its contract: whether `seal` sealed is whether the room holds the text.
-use borrow.Author.Rules.{rules}
-use mathlib.Core.Path.{◌≡◌, refl, ap}
+use mathlib.Core.Path.{◌≡◌, refl, ap, ◌∙◌}
 use mathlib.Core.Bool.{Bool, true, false}
 use mathlib.Core.List.{List}
 use Prim.Native.Nat.{ℕ}
 use Rattle.gcm.specs.Gcm.{Sealed}
-use Rattle.gcm.specs.Answers.{sealing, seal_number}
-use Rattle.gcm.specs.declared.Sealing.{Sealing}
+use Rattle.gcm.specs.Answers.{Sealing, sealing, seal_number}
 use Rattle.engine.specs.Numbers.{seal_tag}
 use Rattle.engine.proofs.dq_gcm_seal.Goals as goal
 
@@ -33,8 +31,12 @@ unfolding sealing seal_tag
 tag-refused true s r tag e h = cc
 tag-refused false s r tag e h = refl
 
-pub returns-then-s : goal.returns-then-s
-returns-then-s c = search (rules, counted, number-done, tag-done)
+pub returns-in-Some : goal.returns-in-Some
+returns-in-Some c =
+    let done = c.in-Some.ensures in
+    (number-done _ _ _ done.0 refl, counted _ _ _ done.0, tag-done _ _ _ c.args.tag.now done.0 refl, done.1)
 
-pub returns-else-s : goal.returns-else-s
-returns-else-s c = search (rules, counted, number-refused, tag-refused)
+pub returns-in-None : goal.returns-in-None
+returns-in-None c =
+    let refused = c.in-None.ensures in
+    (c.number.ensures ∙ number-refused _ _ _ refused.0 refl, counted _ _ _ refused.0, tag-refused _ _ _ c.args.tag.now refused.0 refl, refused.1)

@@ -1,5 +1,5 @@
 -- `gcm::open` meets its contract: the tag is judged under the key's own subkey, and only where it is right the text that was
--- put at the start of the room is deciphered there.
+-- copied to the start of the room is deciphered there.
 use borrow.Kind.Array.{e_int, good_length}
 use mir.Syntax.{w8}
 use borrow.Author.Tests.{not-true, not-false}
@@ -7,17 +7,17 @@ use mathlib.Core.Path.{◌≡◌, sym, ap, ap₂, ◌∙◌}
 use mathlib.Core.List.{List, ◌++◌}
 use Prim.Native.Nat.{ℕ, ◌+◌, ◌≤◌}
 use native.Mathlib.Omega.{arith}
-use lib.ListN.{length, take, drop, length-take}
+use lib.ListN.{length, drop}
 use Rattle.octets.specs.Same.{same}
 use Rattle.ghash.specs.Ghash.{blocks_in}
 use Rattle.aes.specs.Prepared.{under}
 use Rattle.aes.specs.Cipher.{cipher}
 use Rattle.gcm.specs.Gctr.{Out, inc32, gctr}
 use Rattle.gcm.specs.Gcm.{j0, counter, tag_of, open'}
-use Rattle.gcm.specs.declared.Opening.TheVariants.{Plain}
+use Rattle.gcm.specs.Answers.{Plain}
 use Rattle.gcm.proofs.GctrLaws.{gctr-count}
 use Rattle.gcm.proofs.GcmLaws.{first_block}
-use Rattle.gcm.proofs.AnswerLaws.{keyed, put-lent, put_rest, opening-short, room-unopened, opening-wrong, room-wrong, opening-right, room-right}
+use Rattle.gcm.proofs.AnswerLaws.{keyed, opening-short, room-unopened, opening-wrong, room-wrong, opening-right, room-right}
 use Rattle.gcm.proofs.open.Goals as goal
 
 pub returns-then-room-n : goal.returns-then-room-n
@@ -29,24 +29,15 @@ returns-then-room-n c =
 pub returns-then-not-authentic : goal.returns-then-not-authentic
 returns-then-not-authentic c =
     let a = c.args in
-    let judged = keyed (λ f k. same (tag_of f k a.iv a.a.now a.text.now).bytes a.t) a.key c.prepare-p.result c.encrypt_prepared-h.result c.prepare-p.ensures c.encrypt_prepared-h.ensures in
+    let judged = keyed (λ f k. same (tag_of f k a.iv a.a.now a.text.now).bytes a.t) a.key _ _ c.keyed.ensures.0 c.keyed.ensures.1 in
     let wrong = sym judged ∙ sym c.authentic.ensures ∙ not-true c.authentic.result c.if-not-authentic.true-raw in (
       opening-wrong a.text.now a.room.now c.if-room-n.false a.key a.iv a.a.now a.t wrong,
       room-wrong a.text.now a.room.now c.if-room-n.false a.key a.iv a.a.now a.t wrong,
     )
 
-pub slice_bounds-crypt-end-2 : goal.slice_bounds-crypt-end-2
-slice_bounds-crypt-end-2 c =
-    let a = c.args in
-    sym (ap length (ap (take (length a.text.now)) c.put.ensures ∙ put-lent a.text.now a.room.now c.if-room-n.false))
-
 pub overflow_add-result : goal.overflow_add-result
 unfolding blocks_in
-overflow_add-result c =
-    let a = c.args in
-    let lent : length (take (length a.text.now) c.put.new.room) ≤ length a.text.now =
-    omega (arith, length-take (length a.text.now) c.put.new.room) in
-    omega (arith, c.crypt-b.ensures.1 ∙ gctr-count _ _ _)
+overflow_add-result c = omega (arith, ap length c.copy_from_slice.ensures.after, c.crypt.ensures.1 ∙ gctr-count _ _ _)
 
 pub returns : goal.returns
 returns c =
@@ -54,16 +45,15 @@ returns c =
     let text = a.text.now in
     let room = a.room.now in
     let fit : length text ≤ length room = c.if-room-n.false in
-    let p = c.prepare-p.result in
+    let ready = c.keyed.result in
     let e12 : length a.iv ≡ 12 = good_length (e_int w8) 12 a.iv _ c.well_formed.1.0 in
-    let judged = keyed (λ f s. same (tag_of f s a.iv a.a.now text).bytes a.t) a.key p c.encrypt_prepared-h.result c.prepare-p.ensures c.encrypt_prepared-h.ensures in
+    let judged = keyed (λ f s. same (tag_of f s a.iv a.a.now text).bytes a.t) a.key ready.0 ready.1 c.keyed.ensures.0 c.keyed.ensures.1 in
     let right = sym judged ∙ sym c.authentic.ensures ∙ not-false c.authentic.result c.if-not-authentic.false-raw in
-    let lent = ap (take (length text)) c.put.ensures ∙ put-lent text room fit in
-    let done : gctr (under p) (counter a.iv 2) (take (length text) c.put.new.room) ≡ _ =
-    ap₂ (λ (icb x : List ℕ). gctr (under p) icb x) (first_block a.iv e12) lent
-    ∙ keyed (λ f s. gctr f (inc32 (j0 a.iv)) text) a.key p c.encrypt_prepared-h.result c.prepare-p.ensures c.encrypt_prepared-h.ensures in (
-      ap (λ (n : ℕ). Plain (n + 2)) (c.crypt-b.ensures.1 ∙ ap (λ (z : Out). length z.enciphered) done ∙ gctr-count (cipher a.key) (inc32 (j0 a.iv)) text)
+    let done : gctr (under ready.0) (counter a.iv 2) c.copy_from_slice.new.self ≡ _ =
+    ap₂ (λ (icb x : List ℕ). gctr (under ready.0) icb x) (first_block a.iv e12) c.copy_from_slice.ensures.after
+    ∙ keyed (λ f s. gctr f (inc32 (j0 a.iv)) text) a.key ready.0 ready.1 c.keyed.ensures.0 c.keyed.ensures.1 in (
+      ap (λ (n : ℕ). Plain (n + 2)) (c.crypt.ensures.1 ∙ ap (λ (z : Out). length z.enciphered) done ∙ gctr-count (cipher a.key) (inc32 (j0 a.iv)) text)
           ∙ opening-right text room fit a.key a.iv a.a.now a.t right,
-      ap₂ (λ (x y : List ℕ). x ++ y) (c.crypt-b.ensures.0 ∙ ap (λ (z : Out). z.bytes) done) (ap (drop (length text)) c.put.ensures ∙ put_rest text room fit)
+      ap (λ (x : List ℕ). x ++ drop (length text) room) (c.crypt.ensures.0 ∙ ap (λ (z : Out). z.bytes) done)
           ∙ room-right text room fit a.key a.iv a.a.now a.t right,
     )

@@ -3,35 +3,30 @@ use mathlib.Core.Path.{◌≡◌, ap, ◌∙◌}
 use mathlib.Core.List.{List}
 use Prim.Native.Nat.{ℕ}
 use Rattle.state.specs.declared.State.{State}
-use Rattle.gateway.specs.declared.commanding.Commanded.{Commanded}
-use Rattle.gateway.specs.Command.{commanding, command_room}
+use Rattle.gateway.specs.Command.{Commanded, commanding}
 use Rattle.promises.specs.Step.{command, answer, next, with_records}
-use Rattle.lent.proofs.Refused.{stays}
+use Rattle.lent.proofs.OrderLaws.{no-order}
 use Rattle.lent.proofs.dq_command.Goals as goal
-use Rattle.lent.proofs.dq_command.Goals.{then-done-eq0, else-done-eq0}
 
-steps : (h : State) (p o o' : List ℕ) (r : Commanded) → r ≡ commanding h.rights h.records p o → o' ≡ command_room h.rights h.records p o →
-    (r.heard.number ≡ (answer h (command p o)).number)
-    × (with_records h r.records ≡ next h (command p o))
-    × (o' ≡ (answer h (command p o)).room)
-    × (r.heard.order ≡ (answer h (command p o)).order)
-    × (r.heard.blocks ≡ (answer h (command p o)).blocks)
+steps : (h : State) (p o : List ℕ) (y : Commanded) → y ≡ commanding h.rights h.records p o
+    → let s = answer h (command p o) in
+    (y.heard.number ≡ s.number) × (with_records h y.records ≡ next h (command p o)) × (y.heard.order ≡ s.order) × (y.heard.blocks ≡ s.blocks)
 unfolding answer next commanding
-steps h p o o' r e f = (
+steps h p o y e = (
   ap (λ (x : Commanded). x.heard.number) e,
   ap (λ (x : Commanded). with_records h x.records) e,
-  f,
   ap (λ (x : Commanded). x.heard.order) e,
   ap (λ (x : Commanded). x.heard.blocks) e,
 )
 
-pub returns : goal.returns
-returns c =
-    let a = c.args in
-    let s = steps a.state.now a.packet.now a.room.now _ _ c.command-done.ensures.0 c.command-done.ensures.1 in
-    let stored : c.if-done-eq0.state ≡ next a.state.now (command a.packet.now a.room.now) =
-    elim c.if-done-eq0.branch [
-      | then-done-eq0 w ↦ w.state-is ∙ s.1
-      | else-done-eq0 w ↦ w.state-is ∙ stays a.state.now (command a.packet.now a.room.now) s.0 s.1 w.if-done-eq0.false
-    ] in
-    (s.0, stored, s.2, s.3, s.4)
+pub returns-in-Ok : goal.returns-in-Ok
+unfolding answer
+returns-in-Ok c =
+    let s = steps c.args.state.now c.args.packet.now c.args.room.now _ c.in-Ok.ensures.0 in
+    (s.0, s.1, c.in-Ok.ensures.1, s.2, s.3)
+
+pub returns-in-Err : goal.returns-in-Err
+unfolding answer
+returns-in-Err c =
+    let s = steps c.args.state.now c.args.packet.now c.args.room.now _ c.in-Err.ensures.0 in
+    (c.refuse.ensures.0 ∙ s.0, s.1, c.in-Err.ensures.1, no-order c.default.result c.default.ensures ∙ s.2, c.refuse.ensures.1 ∙ s.3)

@@ -1,35 +1,32 @@
 -- `dq_request` meets its contract: what `gateway::request` answers is the step's answer, and the records are stored where it is accepted.
-use mathlib.Core.Path.{◌≡◌, ap}
+use mathlib.Core.Path.{◌≡◌, ap, ◌∙◌}
 use mathlib.Core.List.{List}
 use Prim.Native.Nat.{ℕ}
 use lib.ListN.{length}
 use Rattle.state.specs.declared.State.{State}
-use Rattle.gateway.specs.declared.requesting.Requested.{Requested}
-use Rattle.gateway.specs.Request.{requesting, request_room}
+use Rattle.gateway.specs.Request.{Requested, requesting}
 use Rattle.promises.specs.Step.{request, answer, next, with_records}
-use Rattle.lent.proofs.Refused.{stays}
 use Rattle.lent.proofs.dq_request.Goals as goal
 
-steps : (h : State) (p f o o' : List ℕ) (r : Requested) → r ≡ requesting h.rights h.records h.names p f (length o) → o' ≡ request_room h.rights h.names p f o →
-    (r.answer.number ≡ (answer h (request p f o)).number)
-    × (with_records h r.records ≡ next h (request p f o))
-    × (o' ≡ (answer h (request p f o)).room)
-    × (r.host ≡ (answer h (request p f o)).host)
-    × (r.answer.blocks ≡ (answer h (request p f o)).blocks)
+steps : (h : State) (p f o : List ℕ) (y : Requested) → y ≡ requesting h.rights h.records h.names p f (length o)
+    → let s = answer h (request p f o) in
+    (y.answer.number ≡ s.number) × (with_records h y.records ≡ next h (request p f o)) × (y.host ≡ s.host) × (y.answer.blocks ≡ s.blocks)
 unfolding answer next
-steps h p f o o' r e g = (
+steps h p f o y e = (
   ap (λ (x : Requested). x.answer.number) e,
   ap (λ (x : Requested). with_records h x.records) e,
-  g,
   ap (λ (x : Requested). x.host) e,
   ap (λ (x : Requested). x.answer.blocks) e,
 )
 
-pub returns-then-done-eq0 : goal.returns-then-done-eq0
-returns-then-done-eq0 c = steps _ _ _ _ _ _ c.request-done.ensures.0 c.request-done.ensures.1
+pub returns-in-Ok : goal.returns-in-Ok
+unfolding answer
+returns-in-Ok c =
+    let s = steps c.args.state.now c.args.request.now c.args.fresh.now c.args.room.now _ c.in-Ok.ensures.0 in
+    (s.0, s.1, c.in-Ok.ensures.1, s.2, s.3)
 
-pub returns-else-done-eq0 : goal.returns-else-done-eq0
-returns-else-done-eq0 c =
-    let a = c.args in
-    let s = steps a.state.now a.request.now a.fresh.now a.room.now _ _ c.request-done.ensures.0 c.request-done.ensures.1 in
-    (s.0, stays a.state.now (request a.request.now a.fresh.now a.room.now) s.0 s.1 c.if-done-eq0.false, s.2, s.3, s.4)
+pub returns-in-Err : goal.returns-in-Err
+unfolding answer
+returns-in-Err c =
+    let s = steps c.args.state.now c.args.request.now c.args.fresh.now c.args.room.now _ c.in-Err.ensures.0 in
+    (c.refuse.ensures.0 ∙ s.0, s.1, c.in-Err.ensures.1, s.2, c.refuse.ensures.1 ∙ s.3)

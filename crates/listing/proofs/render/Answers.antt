@@ -1,62 +1,42 @@
 -- `listing::render` meets its contract: a sound state's listing fits the room, and its three parts are put as one.
-use mathlib.Core.Path.{refl, ◌∙◌}
-use native.Mathlib.Nat.{zero-add}
-use native.Mathlib.Omega.{arith}
+use Rattle.std.proofs.Common.{◌*◌, ◌+◌, refl, sym, ◌∙◌, zero-add, rules, arith}
 use borrow.Author.Tests.{lt-ltb, le-ltb}
-use Rattle.octets.proofs.CheckLaws.{no, yes}
 use Rattle.state.proofs.SoundLaws.{sound-facts}
-use Rattle.listing.specs.Lines.{line_of, line_count, listing_of, render_refusal, render_length, render_room}
-use Rattle.listing.proofs.LineLaws.{length-counts, length-hosts, length-interfaces}
-use Rattle.listing.proofs.PieceLaws.{wrote-length, wrote_then}
+use Rattle.listing.specs.Lines.{listing_of, render_refusal, render_length, render_room}
+use Rattle.listing.proofs.LineLaws.{length-counts, length-hosts}
+use Rattle.listing.proofs.PageLaws.{adds-left, adds_then, adds_out}
 use Rattle.listing.proofs.render.Goals as goal
 
 pub returns-then-not-sound : goal.returns-then-not-sound
 unfolding render_refusal render_length render_room
-returns-then-not-sound c = rw (no c.sound.ensures c.if-not-sound.true-raw) (refl, refl, refl)
+returns-then-not-sound c = rw (← c.if-not-sound.ensures) (refl, refl, refl)
 
 pub returns-then-room-lt-LONGEST : goal.returns-then-room-lt-LONGEST
 unfolding render_refusal render_length render_room
-returns-then-room-lt-LONGEST c = rw (yes c.sound.ensures c.if-not-sound.false-raw, lt-ltb _ 11264 c.if-room-lt-LONGEST.true) (refl, refl, refl)
+returns-then-room-lt-LONGEST c = rw (sym c.if-not-sound.ensures, lt-ltb _ 11264 c.if-room-lt-LONGEST.true) (refl, refl, refl)
 
-pub put_lines-b-requires : goal.put_lines-b-requires
-unfolding line_count
-put_lines-b-requires c =
-    let rights = c.args.rights in
-    let sound = yes c.sound.ensures c.if-not-sound.false-raw in
-    let w = c.counts_line-a.ensures in
-    let l = wrote-length _ _ _ w in
-    let f = sound-facts rights sound in
-    let n = length-counts rights f.hosts f.interfaces in
-    let t = c.if-room-lt-LONGEST.false in
-    (sound, omega arith, omega arith, omega arith)
+pub host_lines-requires : goal.host_lines-requires
+host_lines-requires c =
+    let r = c.args.rights in
+    let sound = sym c.if-not-sound.ensures in
+    let f = sound-facts r sound in
+    (sound, adds-left 11264 (r.hosts * 277 + 3) c.counts_line.ensures c.if-room-lt-LONGEST.false (omega (arith, length-counts r f.hosts f.interfaces, f.hosts)))
 
-pub put_lines-c-requires : goal.put_lines-c-requires
-unfolding line_of line_count
-put_lines-c-requires c =
-    let a = c.args in
-    let sound = yes c.sound.ensures c.if-not-sound.false-raw in
-    let f = sound-facts a.rights sound in
-    let w = c.counts_line-a.ensures in
-    let v = c.put_lines-b.ensures in
-    let l = wrote-length _ _ _ w in
-    let m = wrote-length _ _ _ v in
-    let n = length-counts a.rights f.hosts f.interfaces in
-    let h = length-hosts a.rights sound a.names.now in
-    let t = c.if-room-lt-LONGEST.false in
-    (sound, omega arith, omega arith, omega arith)
+pub interface_lines-requires : goal.interface_lines-requires
+interface_lines-requires c =
+    let r = c.args.rights in
+    let sound = sym c.if-not-sound.ensures in
+    let f = sound-facts r sound in
+    let n = r.interfaces * 292 + 10 in (
+      sound,
+      adds-left (r.hosts * 277 + n) n c.host_lines.ensures
+          (adds-left 11264 (r.hosts * 277 + n) c.counts_line.ensures c.if-room-lt-LONGEST.false (omega (arith, length-counts r f.hosts f.interfaces, f.hosts, f.interfaces)))
+          (omega (arith, length-hosts r sound c.args.names.now r.hosts (omega arith))),
+    )
 
 pub returns : goal.returns
-unfolding render_refusal render_length render_room listing_of line_of
+unfolding render_refusal render_length render_room listing_of
 returns c =
-    let a = c.args in
-    let sound = yes c.sound.ensures c.if-not-sound.false-raw in
-    let f = sound-facts a.rights sound in
-    let w = c.counts_line-a.ensures in
-    let v = c.put_lines-b.ensures in
-    let u = c.put_lines-c.ensures in
-    let n = length-counts a.rights f.hosts f.interfaces in
-    let h = length-hosts a.rights sound a.names.now in
-    let i = length-interfaces a.rights sound a.labels.now in
-    let t = c.if-room-lt-LONGEST.false in
-    let x = wrote_then _ _ _ _ (wrote_then _ _ _ _ w v (omega arith)) u (omega arith) in
-    rw (sound, le-ltb _ 11264 t) (refl, x.0 ∙ zero-add _, x.1)
+    let sound = sym c.if-not-sound.ensures in
+    let w = adds_then (adds_then c.counts_line.ensures c.host_lines.ensures) c.interface_lines.ensures in
+    rw (sound, le-ltb _ 11264 c.if-room-lt-LONGEST.false) (refl, w.wrote.0 ∙ zero-add _, adds_out w (search rules))

@@ -1,14 +1,12 @@
--- `octets::equal` meets its contract. The invariant: the bits collected are 0 and the rest is the same, just where all is.
-use mathlib.Core.Path.{◌≡◌}
+-- `octets::equal` meets its contract. The invariant: the bits collected are 0 and what is left is the same, just where all is.
+use Rattle.std.proofs.Common.{◌≡◌, length}
 use mathlib.Core.Bool.{◌&&◌}
-use Prim.Native.Nat.{◌≤◌, ◌-◌}
 use lib.Dec.{eqb}
-use lib.ListN.{length, drop}
 use Rattle.octets.specs.Same.{same}
 use Rattle.octets.proofs.equal.Given as goal
 
-abbrev pub invariant-loop-i : goal.invariant-loop-i
-invariant-loop-i l = (l.i ≤ length l.a) × (eqb l.differ 0 && same (drop l.i l.a) (drop l.i l.b) ≡ same l.a l.b)
-
-abbrev pub decreases-loop-i : goal.decreases-loop-i
-decreases-loop-i l = length l.a - l.i
+abbrev pub invariant-loop-x : goal.invariant-loop-x
+invariant-loop-x l =
+    let xs = l.x-iterator.a.rest.now in
+    let ys = l.x-iterator.b.rest.now in
+    (length xs ≡ length ys) × (eqb l.differ 0 && same xs ys ≡ same l.a l.b)

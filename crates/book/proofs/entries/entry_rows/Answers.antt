@@ -10,7 +10,7 @@ use Rattle.book.proofs.entries.entry_rows.Goals as goal
 
 pub loop-k-init : goal.loop-k-init
 unfolding C.collect laid
-loop-k-init c = (omega arith, refl, refl, fill_none 128, fill_none 128)
+loop-k-init c = (refl, refl, fill_none 128, fill_none 128)
 
 pub put_entries-requires : goal.put_entries-requires
 put_entries-requires c =
@@ -23,14 +23,13 @@ loop-k-preserved c =
     let b = a.book.now in
     let k = c.loop-k.k in
     let few : (j : ℕ) → j < k + 1 → L.entries b (a.h + j) ≤ 16 = λ j q. c.requires.2 j (omega arith) in (
-      omega arith,
-      c.put_entries.auto.words ∙ c.loop-k.invariant.1,
-      c.put_entries.auto.owners ∙ c.loop-k.invariant.2,
+      c.put_entries.auto.words ∙ c.loop-k.invariant.0,
+      c.put_entries.auto.owners ∙ c.loop-k.invariant.1,
       c.put_entries.ensures.0
-          ∙ rw (c.entries.ensures, c.loop-k.invariant.3, add-one)
+          ∙ rw (c.from.ensures, c.entries.ensures, c.loop-k.invariant.2, add-one)
           (laid_more 16 (C.words b) 128 a.h k (omega arith) (λ j q. rw length-collect (few j (omega arith)))),
       c.put_entries.ensures.1
-          ∙ rw (c.entries.ensures, c.loop-k.invariant.4, add-one)
+          ∙ rw (c.from.ensures, c.entries.ensures, c.loop-k.invariant.3, add-one)
           (laid_more 16 (C.owners b) 128 a.h k (omega arith) (λ j q. rw length-collect (few j (omega arith)))),
     )
 
@@ -38,4 +37,4 @@ pub returns : goal.returns
 returns c =
     let a = c.args in
     let e : c.loop-k.k ≡ a.m = omega arith in
-    (rw e at c.loop-k.invariant.3, rw e at c.loop-k.invariant.4)
+    (rw e at c.loop-k.invariant.2, rw e at c.loop-k.invariant.3)

@@ -12,7 +12,6 @@ pub loop-j-init : goal.loop-j-init
 loop-j-init c =
     let a = c.args in
     let b = a.book.now in (
-      omega arith,
       refl,
       refl,
       paste-zero a.words.now a.at (collect (word b a.i) 0 a.e),
@@ -24,11 +23,10 @@ loop-j-preserved c =
     let a = c.args in
     let b = a.book.now in
     let j = c.loop-j.j in (
-      omega arith,
+      simp length-set c.loop-j.invariant.0,
       simp length-set c.loop-j.invariant.1,
-      simp length-set c.loop-j.invariant.2,
-      rw (c.word.ensures, c.loop-j.invariant.3, add-one) (paste_more (word b a.i) a.words.now a.at a.e j (omega arith) (omega arith)),
-      rw (c.owner.ensures, c.loop-j.invariant.4, add-one) (paste_more (owner b a.i) a.owners.now a.at a.e j (omega arith) (omega arith)),
+      rw (c.from.ensures, c.word.ensures, c.loop-j.invariant.2, add-one) (paste_more (word b a.i) a.words.now a.at a.e j (omega arith) (omega arith)),
+      rw (c.from-in-loop-j.ensures, c.owner.ensures, c.loop-j.invariant.3, add-one) (paste_more (owner b a.i) a.owners.now a.at a.e j (omega arith) (omega arith)),
     )
 
 pub returns : goal.returns
@@ -36,6 +34,6 @@ returns c =
     let a = c.args in
     let b = a.book.now in
     let e : c.loop-j.j ≡ a.e = omega arith in (
-      rw e at c.loop-j.invariant.3 ∙ paste_all (word b a.i) a.words.now a.at a.e,
-      rw e at c.loop-j.invariant.4 ∙ paste_all (owner b a.i) a.owners.now a.at a.e,
+      rw e at c.loop-j.invariant.2 ∙ paste_all (word b a.i) a.words.now a.at a.e,
+      rw e at c.loop-j.invariant.3 ∙ paste_all (owner b a.i) a.owners.now a.at a.e,
     )

@@ -25,4 +25,4 @@ returns c =
     ∙ head-laid lead rest e16 e48
     ∙ ap (λ (x : List ℕ). x ++ rest)
     (c.command_lead-lead.ensures
-    ∙ ap (λ (id : ℕ). command_lead a.ask.client a.ask.sequence a.ask.group a.ask.interface id a.size a.ask.command) c.u16_at-id.ensures)
+    ∙ ap (λ (id : ℕ). command_lead a.ask.client a.ask.sequence a.ask.group a.ask.interface id a.size a.ask.command) c.at-id.ensures)

@@ -1,14 +1,8 @@
--- `ghash::blocks::absorb` meets its contract. The loop's invariant: the steps over the blocks from i on, from y, come to what all of
--- them come to from the first y; the last block, where s does not end on a whole one, is one step more.
-use mathlib.Core.Path.{◌≡◌}
-use Prim.Native.Nat.{◌+◌, ◌-◌, ◌/◌, ◌≤◌}
-use lib.ListN.{length}
-use Rattle.ghash.specs.Ghash.{blocks_from, ghash_from}
-use Rattle.ghash.specs.Words.{num}
+-- `ghash::blocks::absorb` meets its contract: the steps over the blocks of what is left, from y, come to what all of them come to from the first y.
+use Rattle.std.proofs.Common.{◌≡◌}
+use Rattle.ghash.specs.Ghash.{padded, ghash_from}
 use Rattle.ghash.proofs.blocks.absorb.Given as goal
 
-abbrev pub invariant-loop-i : goal.invariant-loop-i
-invariant-loop-i l = (l.i ≤ l.n) × (ghash_from (num l.h) (num l.y) (blocks_from l.s l.i ((length l.s + 15) / 16 - l.i)) ≡ ghash_from (num l.h) (num l.initial.y) (blocks_from l.s 0 ((length l.s + 15) / 16)))
-
-abbrev pub decreases-loop-i : goal.decreases-loop-i
-decreases-loop-i l = l.n - l.i
+abbrev pub invariant-loop-part : goal.invariant-loop-part
+invariant-loop-part l =
+    (l.part-iterator.size ≡ 16) × (ghash_from l.h l.y (padded l.part-iterator.rest.now) ≡ ghash_from l.h l.initial.y (padded l.s))

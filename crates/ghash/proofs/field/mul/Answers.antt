@@ -1,78 +1,73 @@
-use mathlib.Core.Path.{◌≡◌, refl, sym}
-use Prim.Native.Nat.{ℕ, ◌^◌, ◌<◌}
-use native.Mathlib.Omega.{arith}
+use mathlib.Core.Path.{refl, sym, ap, ◌∙◌}
+use Rattle.std.proofs.Common.{◌≡◌, ◌<◌, ◌≢◌, length, arith, get_or-set_other, get_or-set_same, length-set, below_more, rules}
 use lib.Bits.{bit_xor}
-use Rattle.ghash.specs.Field.{v_i, z_i, dot}
-use Rattle.ghash.specs.Words.{num}
-use Rattle.ghash.proofs.FieldLaws.{z_i-quarters}
-use Rattle.ghash.proofs.TurnLaws.{Sum, turn-word, turn-power, turn-0, turn-32, turn-64, turn-96}
+use lib.ListN.{length-replicate}
+use Rattle.ghash.specs.Field.{v_i, z_i}
+use Rattle.ghash.proofs.Padding.{get_or-zeros}
+use Rattle.ghash.proofs.TurnLaws.{taken, turn-double, turn-power, turn-sum, taken-last, taken-none, taken-dot}
 use Rattle.ghash.proofs.field.mul.Goals as goal
 
-pub loop-i-init : goal.loop-i-init
+pub loop-init : goal.loop-init
 unfolding v_i z_i
-loop-i-init c =
-    let x = c.args.x in
-    let hh : x.hi < 2 ^ 64 = c.well_formed.0.1.1.0.1 in
-    let hl : x.lo < 2 ^ 64 = c.well_formed.0.1.1.1.0.1 in
-    (omega arith, hl, omega arith, omega arith, refl, refl, refl, refl, refl)
+loop-init g c = record {
+  long = length-replicate g.row.N 0;
+  doubled = omega arith;
+  power = refl;
+  sums = λ k h. get_or-zeros g.row.N k;
+}
 
-pub add-a-requires : goal.add-a-requires
-add-a-requires c = omega arith
+pub loop-j-init : goal.loop-j-init
+loop-j-init g c = record {
+  long = c.loop.invariant.long;
+  more = λ k h. absurd (omega arith);
+  sums = λ k h m. c.loop.invariant.sums k m;
+}
 
-pub add-b-requires : goal.add-b-requires
-add-b-requires c = omega arith
+pub loop-j-preserved : goal.loop-j-preserved
+loop-j-preserved g c =
+    let a = c.args in
+    let l = c.loop in
+    let i = l.invariant in
+    let s = c.loop-j.invariant in
+    let j = c.loop-j.j in
+    let lt : j < length c.loop-j.sum-items = omega arith in
+    record {
+      long = simp length-set s.long;
+      more =
+          below_more _ _ (λ k h. let ne : k ≢ j = omega arith in rw get_or-set_other (s.more k h))
+          (rw get_or-set_same (turn-sum a.x a.y l.counter j l.x _ l.v c.add.result i.doubled (omega arith) (omega arith) (s.sums j (omega arith) (omega arith)) i.power c.add.ensures));
+      sums = λ k h m. let ne : k ≢ j = omega arith in rw get_or-set_other (s.sums k (omega arith) m);
+    }
 
-pub add-c-requires : goal.add-c-requires
-add-c-requires c = omega arith
+pub loop-preserved : goal.loop-preserved
+loop-preserved g c =
+    let a = c.args in
+    let l = c.loop in
+    let i = l.invariant in
+    record {
+      long = c.loop-j.invariant.long;
+      doubled = turn-double a.x l.counter l.x i.doubled;
+      power = turn-power a.y l.counter l.v _ i.power c.times_x-v.ensures;
+      sums = λ k h. c.loop-j.invariant.more k (omega arith);
+    }
 
-pub add-d-requires : goal.add-d-requires
-add-d-requires c = omega arith
-
-pub overflow_mul-h : goal.overflow_mul-h
-overflow_mul-h c = omega arith
-
-pub overflow_mul-l : goal.overflow_mul-l
-overflow_mul-l c = omega arith
-
-pub overflow_add-i : goal.overflow_add-i
-overflow_add-i c = omega arith
-
-pub loop-i-smaller : goal.loop-i-smaller
-loop-i-smaller c = omega arith
-
--- the four sums at the end
-summed : (x y i a b c d p q r s t u : ℕ) → i ≡ 32 → Sum x y 0 i a → Sum x y 32 i b → Sum x y 64 i c → Sum x y 96 i d →
-    p ≡ v_i b 32 → q ≡ bit_xor a p → r ≡ v_i d 32 → s ≡ bit_xor c r → t ≡ v_i s 64 → u ≡ bit_xor q t → u ≡ dot x y
-unfolding dot
-summed x y i a b c d p q r s t u e ea eb ec ed ep eq er es et eu =
-    rw (eu, et, es, er, eq, ep, ea, eb, ec, ed, e) (sym (z_i-quarters x y))
-
-pub loop-i-preserved : goal.loop-i-preserved
-loop-i-preserved c =
-    let h = c.args.x.hi in
-    let l = c.args.x.lo in
-    let y = num c.args.y in
-    let i = c.loop-i.i in
-    let lt : i < 32 = omega arith in
-    let hl = c.loop-i.invariant.1 in
-    let eh = c.loop-i.invariant.2 in
-    let el = c.loop-i.invariant.3 in
-    let ev = c.loop-i.invariant.4 in (
-      omega arith,
-      hl,
-      turn-word h i _ eh,
-      turn-word l i _ el,
-      turn-power y i _ _ ev c.times_x-v.ensures,
-      turn-0 h l y i _ _ _ _ hl lt ev eh c.loop-i.invariant.5 c.add-a.ensures,
-      turn-32 h l y i _ _ _ _ hl lt ev eh c.loop-i.invariant.6 c.add-b.ensures,
-      turn-64 h l y i _ _ _ _ hl lt ev el c.loop-i.invariant.7 c.add-c.ensures,
-      turn-96 h l y i _ _ _ _ hl lt ev el c.loop-i.invariant.8 c.add-d.ensures,
-    )
+pub loop-sum-preserved : goal.loop-sum-preserved
+loop-sum-preserved g c =
+    let s = c.in-Some.sum.now in
+    let z = c.loop-sum.z in
+    let left = c.next.new.self.iter.rest.now in
+    ap (λ n. taken left (bit_xor n s)) c.times_x32.ensures
+    ∙ sym (taken-last left s z)
+    ∙ ap (λ r. taken r z) (sym c.in-Some.ensures.steps)
+    ∙ c.loop-sum.invariant
 
 pub returns : goal.returns
-returns c =
-    let x = num c.args.x in
-    let y = num c.args.y in
-    let e : c.loop-i.i ≡ 32 = omega arith in
-    summed x y c.loop-i.i _ _ _ _ _ _ _ _ _ _ e c.loop-i.invariant.5 c.loop-i.invariant.6 c.loop-i.invariant.7 c.loop-i.invariant.8
-    c.times_x32.ensures c.xor.ensures c.times_x32-2.ensures c.xor-2.ensures c.times_x64.ensures c.xor-3.ensures
+returns g c =
+    let a = c.args in
+    let i = c.loop.invariant in
+    let sums : c.into_iter-sum-iterator.result.iter.rest.now ≡ c.loop.sums = search rules in
+    let turns : c.loop.counter ≡ 32 = omega arith in
+    sym (taken-none c.loop-sum.sum-iterator.iter.rest.now c.loop-sum.z c.in-None.ensures.steps.0)
+    ∙ c.loop-sum.invariant
+    ∙ ap (λ r. taken r 0) sums
+    ∙ taken-dot c.loop.sums a.x a.y g.row.N i.long c.requires.four c.requires.rest (λ k h. rw turns at i.sums k h)

@@ -1,18 +1,24 @@
--- `ghash::field::mul` meets its contract. The loop's invariant: after i turns a, b, c and d are Z_i of x << 0, 32, 64 and 96, v is
--- V_i, and h and l are x's words << i; so at the end a ⊕ (b times x^32) ⊕ ((c ⊕ (d times x^32)) times x^64) is Z_128.
-use mathlib.Core.Path.{◌≡◌}
-use Prim.Native.Nat.{◌+◌, ◌-◌, ◌*◌, ◌^◌, ◌≤◌, ◌<◌}
+-- `ghash::field::mul` meets its contract. After i turns sum k is Z_i of x << 32 k, v is V_i and x is doubled i times; within a turn the sums below j have
+-- taken their bit. Then the sums that are left, taken into z from the last on, come to what all of them come to.
+use Rattle.std.proofs.Common.{◌≡◌, ℕ, ◌+◌, ◌*◌, ◌%◌, ◌^◌, ◌<◌, ◌≤◌, length}
 use Rattle.ghash.specs.Field.{v_i}
-use Rattle.ghash.specs.Words.{num}
-use Rattle.ghash.proofs.TurnLaws.{Doubled, Sum}
+use Rattle.ghash.proofs.TurnLaws.{Sum, taken}
 use Rattle.ghash.proofs.field.mul.Given as goal
 
-abbrev pub invariant-loop-i : goal.invariant-loop-i
-invariant-loop-i l = (l.i ≤ 32) × (l.initial.l < 2 ^ 64) × Doubled l.initial.h l.i l.h × Doubled l.initial.l l.i l.l × (num l.v ≡ v_i (num l.initial.v) l.i)
-    × Sum (l.initial.h * 2 ^ 64 + l.initial.l) (num l.initial.v) 0 l.i (num l.a)
-    × Sum (l.initial.h * 2 ^ 64 + l.initial.l) (num l.initial.v) 32 l.i (num l.b)
-    × Sum (l.initial.h * 2 ^ 64 + l.initial.l) (num l.initial.v) 64 l.i (num l.c)
-    × Sum (l.initial.h * 2 ^ 64 + l.initial.l) (num l.initial.v) 96 l.i (num l.d)
+abbrev pub invariant-loop : goal.invariant-loop
+invariant-loop g l = record {
+  long : length l.sums ≡ g.row.N;
+  doubled : l.x ≡ l.fn.x * 2 ^ l.counter % 2 ^ 128;
+  power : l.v ≡ v_i l.y l.counter;
+  sums : (k : ℕ) → k < g.row.N → Sum l.fn.x l.y l.counter l.sums k;
+}
 
-abbrev pub decreases-loop-i : goal.decreases-loop-i
-decreases-loop-i l = 32 - l.i
+abbrev pub invariant-loop-j : goal.invariant-loop-j
+invariant-loop-j g l = record {
+  long : length l.sum-items ≡ g.row.N;
+  more : (k : ℕ) → k < l.j → Sum l.fn.x l.y (l.counter + 1) l.sum-items k;
+  sums : (k : ℕ) → l.j ≤ k → k < g.row.N → Sum l.fn.x l.y l.counter l.sum-items k;
+}
+
+abbrev pub invariant-loop-sum : goal.invariant-loop-sum
+invariant-loop-sum g l = taken l.sum-iterator.iter.rest.now l.z ≡ taken l.initial.sum-iterator.iter.rest.now 0

@@ -1,22 +1,26 @@
 -- `bodies::judge_body` meets its contract: of an interface its own checks first, then the name.
+use mathlib.Core.Path.{◌≡◌, sym, ◌∙◌}
+use mathlib.Core.Logic.{◌≢◌}
+use borrow.Author.Rules.{rules}
 use borrow.Author.Tests.{eq-eqb, ne_eqb}
+use Rattle.layout.specs.declared.kinds.Kind.TheVariants.{Host}
+use Rattle.layout.proofs.KindLaws.{host-one, one-host}
 use Rattle.grammar.specs.Checks.{body_checks}
 use Rattle.grammar.proofs.FaultLaws.{stop, go}
 use Rattle.grammar.proofs.bodies.judge_body.Goals as goal
+use Rattle.grammar.proofs.bodies.judge_body.Goals.{then-ne+in_ok-judge_interface, else-ne}
 
-pub returns-then-kind-eq1 : goal.returns-then-kind-eq1
+pub returns-in_err-judge_interface : goal.returns-in_err-judge_interface
 unfolding body_checks
-returns-then-kind-eq1 c =
-    rw (← c.kind.ensures.0, eq-eqb _ _ c.if-kind-eq1.true) c.judge_name.ensures
-
-pub returns-then-f-ne0 : goal.returns-then-f-ne0
-unfolding body_checks
-returns-then-f-ne0 c =
-    rw (← c.kind.ensures.0, ne_eqb _ _ c.if-kind-eq1.false)
-    (stop _ _ c.judge_interface-f.result c.judge_interface-f.ensures c.if-f-ne0.true)
+returns-in_err-judge_interface c =
+    let k : c.kind.result ≢ Host = search (rules, c.if-ne.ensures) in
+    rw (ne_eqb _ 1 (λ e. k (c.kind.ensures ∙ one-host _ e))) (stop _ _ _ _ c.from_residual.ensures.1 c.in_err-judge_interface.ensures)
 
 pub returns : goal.returns
 unfolding body_checks
-returns c =
-    rw (← c.kind.ensures.0, ne_eqb _ _ c.if-kind-eq1.false)
-    (go _ _ c.judge_interface-f.result _ c.judge_interface-f.ensures c.if-f-ne0.false c.judge_name-2.ensures)
+returns c = elim c.if-ne.branch [
+  | then-ne+in_ok-judge_interface w ↦ let k : c.kind.result ≢ Host = search (rules, w.if-ne.ensures) in
+      rw (ne_eqb _ 1 (λ e. k (c.kind.ensures ∙ one-host _ e))) (go _ _ _ w.in_ok-judge_interface.ensures c.judge_name.ensures)
+  | else-ne w ↦ let k : c.kind.result ≡ Host = search (rules, w.if-ne.ensures) in
+      rw (eq-eqb _ 1 (host-one _ (sym c.kind.ensures ∙ k))) c.judge_name.ensures
+]

@@ -3,12 +3,10 @@ use Rattle.grammar.specs.Checks.{interface_checks}
 use Rattle.grammar.proofs.FaultLaws.{stop, go}
 use Rattle.grammar.proofs.bodies.judge_interface.Goals as goal
 
-pub returns-then-counts-ne0 : goal.returns-then-counts-ne0
+pub returns-in_err-judge_counts : goal.returns-in_err-judge_counts
 unfolding interface_checks
-returns-then-counts-ne0 c = stop _ _ c.judge_counts-counts.result c.judge_counts-counts.ensures c.if-counts-ne0.true
+returns-in_err-judge_counts c = stop _ _ _ _ c.from_residual.ensures.1 c.in_err-judge_counts.ensures
 
 pub returns : goal.returns
 unfolding interface_checks
-returns c =
-    go _ _ c.judge_counts-counts.result _ c.judge_counts-counts.ensures c.if-counts-ne0.false
-    (rw c.entries.ensures at c.judge_words.ensures)
+returns c = go _ _ _ c.in_ok-judge_counts.ensures c.judge_words.ensures

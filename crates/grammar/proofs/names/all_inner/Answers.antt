@@ -1,16 +1,11 @@
-use mathlib.Core.Path.{refl, sym, ◌∙◌}
-use native.Mathlib.Omega.{arith}
+use mathlib.Core.Path.{sym, ◌∙◌}
 use Rattle.grammar.proofs.LetterLaws.{inner-step, inner-end}
 use Rattle.grammar.proofs.names.all_inner.Goals as goal
 
-pub loop-k-init : goal.loop-k-init
-loop-k-init c = (omega arith, refl)
-
-pub loop-k-preserved : goal.loop-k-preserved
-loop-k-preserved c =
-    let s = c.args.name.now in
-    (omega arith, inner-step c.loop-k.odd c.oddness-odd.result s c.loop-k.k (omega arith) c.oddness-odd.ensures ∙ c.loop-k.invariant.1)
+pub loop-c-preserved : goal.loop-c-preserved
+loop-c-preserved c =
+    inner-step c.loop-c.all c.is_inner-all.result c.args.name.now c.loop-c.c-index c.loop-c-test.true c.is_inner-all.ensures ∙ c.loop-c.invariant
 
 pub returns : goal.returns
 returns c =
-    sym (inner-end c.loop-k.odd c.args.name.now c.loop-k.k (omega arith)) ∙ c.loop-k.invariant.1
+    sym (inner-end c.loop-c.all c.args.name.now c.loop-c.c-index c.loop-c-test.false) ∙ c.loop-c.invariant

@@ -1,5 +1,4 @@
 -- `names::judge_letters` meets its contract: a plain name has no bad letter, and another is gone through byte by byte.
-use Prim.Native.Nat.{◌-◌}
 use lib.ListN.{length}
 use Rattle.grammar.specs.Checks.{letter_checks}
 use Rattle.grammar.proofs.FaultLaws.{Left}
@@ -7,6 +6,3 @@ use Rattle.grammar.proofs.names.judge_letters.Given as goal
 
 abbrev pub invariant-loop-k : goal.invariant-loop-k
 invariant-loop-k l = Left (letter_checks l.at l.name) l.k (length l.name)
-
-abbrev pub decreases-loop-k : goal.decreases-loop-k
-decreases-loop-k l = length l.name - l.k

@@ -1,6 +1,5 @@
 -- `rows::judge_rows` meets its contract, row by row, and counts the hosts passed.
 use mathlib.Core.Path.{◌≡◌}
-use Prim.Native.Nat.{◌-◌}
 use Rattle.layout.specs.Layout.{hosts_before}
 use Rattle.grammar.specs.Checks.{row_checks}
 use Rattle.grammar.proofs.FaultLaws.{Left}
@@ -8,6 +7,3 @@ use Rattle.grammar.proofs.rows.judge_rows.Given as goal
 
 abbrev pub invariant-loop-i : goal.invariant-loop-i
 invariant-loop-i l = Left (row_checks l.book) l.i l.n × (l.hosts ≡ hosts_before l.book l.i)
-
-abbrev pub decreases-loop-i : goal.decreases-loop-i
-decreases-loop-i l = l.n - l.i

@@ -1,19 +1,22 @@
 -- `state::with_record` meets its contract.
-use borrow.Author.Tests.{lt-ltb, le-ltb}
+use mathlib.Core.Path.{◌∙◌}
+use Prim.Native.Nat.{◌*◌}
+use native.Mathlib.Omega.{arith}
+use borrow.Author.Tests.{lt-ltb}
+use Rattle.octets.proofs.RoomLaws.{placed-fits}
 use Rattle.state.specs.Flat.{with_record}
 use Rattle.state.proofs.flat.with_record.Goals as goal
-
-pub returns-then-i-ge32 : goal.returns-then-i-ge32
-unfolding with_record
-returns-then-i-ge32 c = rw (le-ltb _ 32 c.if-i-ge32.true)
 
 pub returns : goal.returns
 unfolding with_record
 returns c =
+    let s = c.args.records in
+    let r = c.args.new in
+    let at = c.args.i * 16 in
     rw (
       lt-ltb _ 32 c.if-i-ge32.false,
-      c.tag_of.ensures,
-      c.last_of.ensures,
-      c.with_sixteen-put.ensures,
-      c.with_sixteen-laid.ensures,
+      c.tag.ensures,
+      c.last.ensures,
+      c.put.ensures ∙ placed-fits s.challenges at r.challenge (omega arith),
+      c.put-2.ensures ∙ placed-fits s.keys at r.key (omega arith),
     )

@@ -1,55 +1,34 @@
--- `state::sound` meets its contract.
-use mathlib.Core.Path.{◌≡◌}
+-- `state::sound` meets its contract: each host's length, and each interface.
+use mathlib.Core.Path.{◌≡◌, sym, ◌∙◌}
+use Prim.Native.Nat.{ℕ, ◌*◌, ◌≤◌}
 use native.Mathlib.Omega.{arith}
-use lib.ListN.{length}
+use lib.ListN.{get_or}
 use borrow.Author.Rules.{rules}
-use borrow.Author.Tests.{lt-leb, le-leb}
-use Rattle.state.specs.Sound.{sound_rights}
-use Rattle.octets.proofs.CheckLaws.{no, yes}
+use borrow.Author.Tests.{tests, le-leb}
+use Rattle.std.proofs.lemmas.Iterator.Search.{all_from_yields_List}
+use Rattle.octets.specs.Range.{between}
+use Rattle.state.specs.Sound.{all_below, all_within, interface_sound, all_interfaces, sound_rights}
+use Rattle.state.proofs.BelowLaws.{counted, all-range}
 use Rattle.state.proofs.soundness.sound.Goals as goal
 
-pub returns-then-hosts-gt32 : goal.returns-then-hosts-gt32
-unfolding sound_rights
-returns-then-hosts-gt32 c = rw (lt-leb _ 32 c.if-hosts-gt32.true)
+pub returns-then-all : goal.returns-then-all
+unfolding sound_rights all_within all_interfaces
+returns-then-all c =
+    let r = c.args.rights in
+    let small = λ (i : ℕ). between 1 256 (get_or r.sizes i 0) in
+    let sizes : c.all.result ≡ all_below small r.hosts = all_from_yields_List small _ _ c.all.result c.all.ensures.ran (counted r.hosts (rw c.from.ensures)) (λ x b q k. search (rules, tests)) ∙ all-range small r.hosts in
+    let test = λ (i : ℕ). interface_sound r.words (i * 16) (get_or r.spans i 0) (get_or r.commands i 0) (get_or r.entries i 0) in
+    let each : c.all-then-all.result ≡ all_below test r.interfaces = all_from_yields_List test _ _ c.all-then-all.result c.all-then-all.ensures.ran (counted r.interfaces (rw c.from-then-all.ensures)) (λ x b q k. search (rules, tests)) ∙ all-range test r.interfaces in
+    let n : r.hosts ≤ 32 = omega arith in
+    let m : r.interfaces ≤ 8 = omega arith in
+    rw (le-leb r.hosts 32 n, le-leb r.interfaces 8 m, sym sizes ∙ c.if-all.true) each
 
-pub returns-then-interfaces-gt8 : goal.returns-then-interfaces-gt8
-unfolding sound_rights
-returns-then-interfaces-gt8 c = rw (le-leb _ 32 c.if-hosts-gt32.false, lt-leb _ 8 c.if-interfaces-gt8.true)
-
-pub slice_bounds-all_within-end : goal.slice_bounds-all_within-end
-slice_bounds-all_within-end c = search rules
-
-pub all_within-requires : goal.all_within-requires
-all_within-requires c = let l : 32 ≡ length c.args.rights.sizes = slice_bounds-all_within-end c in omega arith
-
-pub returns-then-not-all_within : goal.returns-then-not-all_within
-unfolding sound_rights
-returns-then-not-all_within c =
-    rw (le-leb _ 32 c.if-hosts-gt32.false, le-leb _ 8 c.if-interfaces-gt8.false, no c.all_within.ensures c.if-not-all_within.true-raw)
-
-pub slice_bounds-all_interfaces-end : goal.slice_bounds-all_interfaces-end
-slice_bounds-all_interfaces-end c = search rules
-
-pub slice_bounds-all_interfaces-end-2 : goal.slice_bounds-all_interfaces-end-2
-slice_bounds-all_interfaces-end-2 c = search rules
-
-pub slice_bounds-all_interfaces-end-3 : goal.slice_bounds-all_interfaces-end-3
-slice_bounds-all_interfaces-end-3 c = search rules
-
-pub slice_bounds-all_interfaces-end-4 : goal.slice_bounds-all_interfaces-end-4
-slice_bounds-all_interfaces-end-4 c = search rules
-
-pub all_interfaces-requires : goal.all_interfaces-requires
-all_interfaces-requires c =
-    let s = c.args.rights in
-    let a : 128 ≡ length s.words = slice_bounds-all_interfaces-end c.before.before.before in
-    let b : 8 ≡ length s.spans = slice_bounds-all_interfaces-end-2 c.before.before in
-    let d : 8 ≡ length s.commands = slice_bounds-all_interfaces-end-3 c.before in
-    let e : 8 ≡ length s.entries = slice_bounds-all_interfaces-end-4 c in
-    omega (arith, c.if-interfaces-gt8.false)
-
-pub returns : goal.returns
-unfolding sound_rights
-returns c =
-    rw (le-leb _ 32 c.if-hosts-gt32.false, le-leb _ 8 c.if-interfaces-gt8.false, yes c.all_within.ensures c.if-not-all_within.false-raw)
-    c.all_interfaces.ensures
+pub returns-else-all : goal.returns-else-all
+unfolding sound_rights all_within
+returns-else-all c =
+    let r = c.args.rights in
+    let small = λ (i : ℕ). between 1 256 (get_or r.sizes i 0) in
+    let sizes : c.all.result ≡ all_below small r.hosts = all_from_yields_List small _ _ c.all.result c.all.ensures.ran (counted r.hosts (rw c.from.ensures)) (λ x b q k. search (rules, tests)) ∙ all-range small r.hosts in
+    let n : r.hosts ≤ 32 = omega arith in
+    let m : r.interfaces ≤ 8 = omega arith in
+    rw (le-leb r.hosts 32 n, le-leb r.interfaces 8 m, sym sizes ∙ c.if-all.false) c.if-all.false

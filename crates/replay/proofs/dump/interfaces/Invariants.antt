@@ -1,6 +1,0 @@
--- `dump::interfaces` is safe and ends. The measure is the number of interfaces that are left.
-use Rattle.std.proofs.Common.{◌-◌}
-use Rattle.replay.proofs.dump.interfaces.Given as goal
-
-abbrev pub decreases-loop-i : goal.decreases-loop-i
-decreases-loop-i g l = l.n - l.i

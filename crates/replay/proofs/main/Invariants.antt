@@ -1,5 +1,0 @@
--- `main` is safe and ends. The measure is the number of turns that are left.
-use Rattle.replay.proofs.main.Given as goal
-
-abbrev pub decreases-loop-turns : goal.decreases-loop-turns
-decreases-loop-turns l = l.turns
