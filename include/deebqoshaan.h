@@ -16,7 +16,7 @@
  * A call's refusals stand with it in their order: its number is that of the first whose condition holds. The conditions stand with the numbers, below.
  * All numbers in messages are little-endian.
  *
- * Stack on x86-64: less than 12 KB for a command, 48 KB for a load, less than 9 KB for all others (docs/BENCHMARKS.md). What is wiped is wiped in the state;
+ * Stack on x86-64: less than 10 KB for a command, 32 KB for a load, less than 9 KB for all others (docs/BENCHMARKS.md). What is wiped is wiped in the state;
  * copies that a call made on the stack are not.
  */
 #ifndef DEEBQOSHAAN_H
@@ -187,7 +187,7 @@ DQ_HOLDS(order_secret, offsetof(dq_order, secret) == 56);
  * place of the fault in the book, 0 if there is none. To keep the old state until a new book is accepted, load into another one.
  * Refusals, in order: DQ_SIZE (40), DQ_FORMAT (41), DQ_ROWS (42), DQ_KIND_OR_ID (43), DQ_START_OR_LENGTH (44), DQ_COUNTS (45), DQ_PERMITTED (46),
  * DQ_LETTER (47), DQ_NAME_USED (48).
- * They are of the book's first fault: 40 to 42 of its head, then 43 and 44 row by row, then 45 to 48 body by body. *blocks: 0. It takes 48 KB of
+ * They are of the book's first fault: 40 to 42 of its head, then 43 and 44 row by row, then 45 to 48 body by body. *blocks: 0. It takes 32 KB of
  * stack.
  */
 uint8_t dq_load(dq_state *state, const uint8_t *book, size_t book_length, size_t *offset, size_t *blocks);

@@ -17,7 +17,7 @@ const REPLY_HEAD: usize = length::REPLY_MOST - length::PAYLOAD_MOST;
 /// sound, and [`Unsound`](crate::Refusal::Unsound) doesn't come from a `Gateway`. There is no `Clone`, because a copy would accept a command a second
 /// time.
 ///
-/// The calls work on the stack, on x86-64: a load takes some 48 KB of it, for it makes the new state there; a command takes less than 12 KB.
+/// The calls work on the stack, on x86-64: a load takes some 32 KB of it, for it makes the new state there; a command takes less than 10 KB.
 ///
 /// The numbers of hosts, interfaces and entries count from 1, in the book's order. A dropped gateway's state is wiped. What calls copied to the stack
 /// isn't.

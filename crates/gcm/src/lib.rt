@@ -92,7 +92,7 @@ pub fn seal(key: [u8; 16], iv: [u8; 12], a: &[u8], text: &[u8], room: &mut [u8])
     }
     let (p, h) = keyed(key);
     let lent = &mut room[..n];
-    lent.copy_from_slice(text);
+    octets::put(lent, 0, text);
     let tag = seal_in_place(&p, h, iv, a, lent);
     Some(Sealed {
         tag,
@@ -122,6 +122,6 @@ pub fn open(
         return Err(Unopened::TagWrong { blocks: 2 });
     }
     let lent = &mut room[..n];
-    lent.copy_from_slice(text);
+    octets::put(lent, 0, text);
     Ok(crypt(&p, iv, 2, lent) + 2)
 }

@@ -28,7 +28,7 @@ low_first i (suc k) n =
 pub little_bytes : (w : Width) (n : ℕ) → to_le_bytes w n ≡ octets (byte_len w) n
 little_bytes w n = low_first 0 (byte_len w) n ∙ ap (octets (byte_len w)) (omega (arith, pow-zero 256))
 
-number_one : (s : List ℕ) (j : ℕ) → number (part s j 1) ≡ get_or s j 0
+pub number_one : (s : List ℕ) (j : ℕ) → number (part s j 1) ≡ get_or s j 0
 unfolding number
 number_one [] zero = refl
 number_one [] (suc j) = refl

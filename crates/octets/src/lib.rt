@@ -27,13 +27,29 @@ pub fn part(s: &[u8], at: usize, size: usize) -> &[u8]
     there.get(..size).unwrap_or(there)
 }
 
-// Puts x into the room from `at` on; a room where it doesn't fit stays as it was.
+// Puts x into the room from `at` on; a room where it doesn't fit stays as it was. A `for`: `copy_from_slice` of a length that only the call knows is
+// `memmove`, which an archive for C would then want of whoever links it.
 pub fn put(room: &mut [u8], at: usize, x: &[u8])
     ensures { room.new ≡ placed room.old at x.now }
 {
     if at <= room.len() && x.len() <= room.len() - at {
-        room[at..at + x.len()].copy_from_slice(x);
+        for i in 0..x.len() {
+            room[at + i] = x[i];
+        }
     }
+}
+
+// The first N bytes, and 0 for those that aren't there. Byte by byte, since of a part that is put into zeros a compiler makes `memset`, which an archive
+// for C may not have wanted. Out of line, so that a caller of `bytes_at` has no room for it on its stack.
+#[inline(never)]
+fn padded<const N: usize>(s: &[u8]) -> [u8; N]
+    ensures { result ≡ filled N s.now 0 }
+{
+    let mut out = [0; N];
+    for i in 0..N {
+        out[i] = u8::at(s, i);
+    }
+    out
 }
 
 // N bytes from `at` on; what the string doesn't reach counts as 0.
@@ -44,9 +60,7 @@ pub fn bytes_at<const N: usize>(s: &[u8], at: usize) -> [u8; N]
     if let Some(whole) = there.first_chunk::<N>() {
         return *whole;
     }
-    let mut out = [0; N];
-    put(&mut out, 0, there);
-    out
+    padded(there)
 }
 
 // An unsigned number in its bytes, the lowest first.

@@ -1,6 +1,9 @@
 -- What stands below the calls, from bytes to GCM: of each public function two outcomes that its contract allows are equal. The parameters at exit
 -- stand in the order of the signature, the first at .0 and each later one behind one more.1; `now` is what a reference holds.
 use mathlib.Core.Path.{◌≡◌}
+use mir.Val.{Fits}
+use mir.Syntax.{w64}
+use native.Mathlib.Omega.{arith}
 use Prim.Native.Nat.{ℕ}
 use Rattle.octets.proofs as Octets
 use Rattle.refusal.proofs as Refusal
@@ -36,8 +39,11 @@ put-settles κs a x y d e = one
 pub bytes-at-settles : (n : ℕ) (h : _) → SettlesResult (Octets.bytes_at.Reads.Learnt n h)
 bytes-at-settles n h κs a x y d e = one
 
-pub sixteen-settles : (h : _) → SettlesResult (Octets.bytes_at.Reads.Learnt 16 h)
-sixteen-settles = bytes-at-settles 16
+pub sixteen-fits : Fits w64 16
+sixteen-fits = omega arith
+
+pub sixteen-settles : SettlesResult (Octets.bytes_at.Reads.Learnt 16 sixteen-fits)
+sixteen-settles = bytes-at-settles 16 sixteen-fits
 
 pub put-u8-settles : SettlesLent Octets.U8Little.put_at.Reads.Learnt (λ κs d. d.1.0.now)
 put-u8-settles κs a x y d e = one

@@ -1,20 +1,37 @@
 // What is printed of one example. gcm's `seal` and `open` fill the room's start, as many bytes as the text has, and answer no slice.
 use crate::published::{Encryption, Sealing};
-use anyhow::Result;
 use gcm::Unopened;
-use hex::FromHex;
+use hex::{FromHex, FromHexError};
+use std::io;
+use std::io::{ErrorKind, Result};
 
 type Block = [u8; 16];
 
+// What is wrong with digits that are none; the published ones are.
+fn no_digits(_: FromHexError) -> io::Error {
+    io::Error::from(ErrorKind::InvalidData)
+}
+
+fn block(digits: &str) -> Result<Block> {
+    Block::from_hex(digits).map_err(no_digits)
+}
+
+// What digits stand for, in a buffer's start. Buffers and no heap: so this program can't run out of memory.
+fn decoded<'b>(digits: &str, buffer: &'b mut [u8; 64]) -> Result<&'b [u8]> {
+    let bytes = &mut buffer[..(digits.len() / 2).min(64)];
+    hex::decode_to_slice(digits, bytes).map_err(no_digits)?;
+    Ok(bytes)
+}
+
 impl Encryption {
     pub fn run(&self, rt: &HostRuntime) -> Result<()> {
-        let c = aes::encrypt(Block::from_hex(self.key)?, Block::from_hex(self.input)?);
+        let c = aes::encrypt(block(self.key)?, block(self.input)?);
         print(rt, self.name, &c)
     }
 
     pub fn run_prepared(&self, rt: &HostRuntime) -> Result<()> {
-        let p = aes::prepare(Block::from_hex(self.key)?);
-        let c = aes::encrypt_prepared(&p, Block::from_hex(self.input)?);
+        let p = aes::prepare(block(self.key)?);
+        let c = aes::encrypt_prepared(&p, block(self.input)?);
         print!(rt; "{}_prepared", self.name)?;
         print(rt, "", &c)
     }
@@ -23,23 +40,25 @@ impl Encryption {
 impl Sealing {
     // Seals the text, then opens it under its tag, and under that tag with its last bit flipped.
     pub fn run(&self, rt: &HostRuntime) -> Result<()> {
-        let key = Block::from_hex(self.key)?;
-        let iv = <[u8; 12]>::from_hex(self.iv)?;
-        let data = hex::decode(rt.alloc(), self.data)?;
-        let text = hex::decode(rt.alloc(), self.text)?;
+        let key = block(self.key)?;
+        let iv = <[u8; 12]>::from_hex(self.iv).map_err(no_digits)?;
+        let mut buffer = [0; 64];
+        let data = decoded(self.data, &mut buffer)?;
+        let mut buffer = [0; 64];
+        let text = decoded(self.text, &mut buffer)?;
         let mut room = [0; 64];
         println!(rt; "{}", self.name)?;
-        let Some(sealed) = gcm::seal(key, iv, &data, &text, &mut room) else {
-            return Ok(println!(rt; "short")?);
+        let Some(sealed) = gcm::seal(key, iv, data, text, &mut room) else {
+            return println!(rt; "short");
         };
         let c = octets::part(&room, 0, text.len());
         let mut tag = sealed.tag;
         print(rt, "ciphertext", c)?;
         print(rt, "tag", &tag)?;
         println!(rt; "blocks = {}", sealed.blocks)?;
-        open(rt, key, iv, &data, c, tag)?;
+        open(rt, key, iv, data, c, tag)?;
         tag[15] ^= 1;
-        open(rt, key, iv, &data, c, tag)
+        open(rt, key, iv, data, c, tag)
     }
 }
 
@@ -67,11 +86,15 @@ fn open(
     Ok(())
 }
 
-// A line with a label and bytes, two digits each. Where there are none it ends at the sign.
+// A line with a label and at most 64 bytes, two digits each. Where there are none it ends at the sign.
 fn print(rt: &HostRuntime, label: &str, bytes: &[u8]) -> Result<()> {
     print!(rt; "{label} =")?;
     if !bytes.is_empty() {
-        print!(rt; " {}", hex::encode(rt.alloc(), bytes)?)?;
+        let mut buffer = [0; 128];
+        let digits = &mut buffer[..2 * bytes.len().min(64)];
+        hex::encode_to_slice(bytes, digits).map_err(no_digits)?;
+        print!(rt; " ")?;
+        rt.write_all(digits)?;
     }
-    Ok(println!(rt)?)
+    println!(rt)
 }

@@ -11,8 +11,9 @@ mod examples;
 mod published;
 
 use crate::published::{ENCRYPTIONS, SEALINGS};
+use std::io;
 
-fn main(rt: HostRuntime) -> anyhow::Result<()> {
+fn main(rt: HostRuntime) -> io::Result<()> {
     for example in &ENCRYPTIONS {
         example.run(&rt)?;
     }

@@ -58,7 +58,8 @@ fn value_at<T: Copy>(values: &[T], i: usize, past: T) -> T
     values.get(i).copied().unwrap_or(past)
 }
 
-// What a call about that host sees.
+// What a call about that host sees. Inlined, or each of the calls would copy the records for it.
+#[inline(always)]
 #[tactic(auto, unfolding(crate::specs::View::see))]
 pub fn see(rights: Rights, records: Records, host: u16) -> View
     ensures { result ≡ see rights records host }

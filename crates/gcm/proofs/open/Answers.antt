@@ -8,7 +8,9 @@ use mathlib.Core.List.{List, ◌++◌}
 use Prim.Native.Nat.{ℕ, ◌+◌, ◌≤◌}
 use native.Mathlib.Omega.{arith}
 use lib.ListN.{length, drop}
+use lib.Seq.{length-take-le}
 use Rattle.octets.specs.Same.{same}
+use Rattle.octets.proofs.PlacedLaws.{placed-whole}
 use Rattle.ghash.specs.Ghash.{blocks_in}
 use Rattle.aes.specs.Prepared.{under}
 use Rattle.aes.specs.Cipher.{cipher}
@@ -37,7 +39,7 @@ returns-then-not-authentic c =
 
 pub overflow_add-result : goal.overflow_add-result
 unfolding blocks_in
-overflow_add-result c = omega (arith, ap length c.copy_from_slice.ensures.after, c.crypt.ensures.1 ∙ gctr-count _ _ _)
+overflow_add-result c = omega (arith, ap length (c.put.ensures ∙ placed-whole _ c.args.text.now (omega (arith, length-take-le (length c.args.text.now) c.args.room.now c.if-room-n.false))), c.crypt.ensures.1 ∙ gctr-count _ _ _)
 
 pub returns : goal.returns
 returns c =
@@ -49,8 +51,8 @@ returns c =
     let e12 : length a.iv ≡ 12 = good_length (e_int w8) 12 a.iv _ c.well_formed.1.0 in
     let judged = keyed (λ f s. same (tag_of f s a.iv a.a.now text).bytes a.t) a.key ready.0 ready.1 c.keyed.ensures.0 c.keyed.ensures.1 in
     let right = sym judged ∙ sym c.authentic.ensures ∙ not-false c.authentic.result c.if-not-authentic.false-raw in
-    let done : gctr (under ready.0) (counter a.iv 2) c.copy_from_slice.new.self ≡ _ =
-    ap₂ (λ (icb x : List ℕ). gctr (under ready.0) icb x) (first_block a.iv e12) c.copy_from_slice.ensures.after
+    let done : gctr (under ready.0) (counter a.iv 2) c.put.new.room ≡ _ =
+    ap₂ (λ (icb x : List ℕ). gctr (under ready.0) icb x) (first_block a.iv e12) (c.put.ensures ∙ placed-whole _ text (omega (arith, length-take-le (length text) room fit)))
     ∙ keyed (λ f s. gctr f (inc32 (j0 a.iv)) text) a.key ready.0 ready.1 c.keyed.ensures.0 c.keyed.ensures.1 in (
       ap (λ (n : ℕ). Plain (n + 2)) (c.crypt.ensures.1 ∙ ap (λ (z : Out). length z.enciphered) done ∙ gctr-count (cipher a.key) (inc32 (j0 a.iv)) text)
           ∙ opening-right text room fit a.key a.iv a.a.now a.t right,

@@ -5,6 +5,8 @@ use mathlib.Core.List.{List, ◌++◌}
 use Prim.Native.Nat.{ℕ, ◌+◌, ◌≤◌}
 use native.Mathlib.Omega.{arith}
 use lib.ListN.{length, drop}
+use lib.Seq.{length-take-le}
+use Rattle.octets.proofs.PlacedLaws.{placed-whole}
 use Rattle.ghash.specs.Ghash.{blocks_in}
 use Rattle.aes.specs.Prepared.{under}
 use Rattle.aes.specs.Cipher.{cipher}
@@ -30,8 +32,8 @@ returns c =
     let room = a.room.now in
     let fit : length text ≤ length room = c.if-room-n.false in
     let ready = c.keyed.result in
-    let done : seal_under (under ready.0) ready.1 a.iv a.a.now c.copy_from_slice.new.self ≡ _ =
-    ap (seal_under (under ready.0) ready.1 a.iv a.a.now) c.copy_from_slice.ensures.after
+    let done : seal_under (under ready.0) ready.1 a.iv a.a.now c.put.new.room ≡ _ =
+    ap (seal_under (under ready.0) ready.1 a.iv a.a.now) (c.put.ensures ∙ placed-whole _ text (omega (arith, length-take-le (length text) room fit)))
     ∙ keyed (λ f h. seal_under f h a.iv a.a.now text) a.key ready.0 ready.1 c.keyed.ensures.0 c.keyed.ensures.1 in (
       ap₂ (λ (t : List ℕ) (n : ℕ). record { sealed = true; tag = t; blocks = n + 2 }) (c.seal_in_place-tag.ensures.1 ∙ ap (λ (z : Sealed). z.tag) done) c.blocks_in.ensures
           ∙ sealing-done text room fit a.key a.iv a.a.now,

@@ -1,10 +1,9 @@
--- `octets::bytes_at` meets its contract: the bytes from there on begin with the whole of it, or they are placed in a room of zeros.
+-- `octets::bytes_at` meets its contract: the bytes from there on begin with the whole of it, or zeros follow them.
 use mathlib.Core.Path.{sym, ap, ◌∙◌}
 use native.Mathlib.Omega.{arith}
-use lib.ListN.{length, drop, take, replicate, length-take}
-use lib.Seq.{take_all}
-use Rattle.octets.specs.Room.{placed}
-use Rattle.octets.proofs.RoomLaws.{filled-placed, filled-whole}
+use lib.ListN.{length, drop, take, length-take}
+use Rattle.octets.specs.Room.{filled}
+use Rattle.octets.proofs.RoomLaws.{filled-whole}
 use Rattle.octets.proofs.bytes_at.Goals as goal
 
 pub returns-in-Some : goal.returns-in-Some
@@ -16,9 +15,5 @@ returns-in-Some g c =
     ∙ sym (filled-whole g.row.N a.s.now a.at (omega (arith, e.enough, ap length c.from-there.ensures, length-take g.row.N (drop a.at a.s.now))))
 
 pub returns : goal.returns
-returns g c =
-    let a = c.args in
-    let r = c.from-there.ensures in
-    c.put.ensures
-    ∙ ap (placed (replicate g.row.N 0) 0) (r ∙ sym (take_all g.row.N (drop a.at a.s.now) (omega (arith, c.in_default.ensures.cases, ap length r))))
-    ∙ filled-placed g.row.N a.s.now a.at
+unfolding filled
+returns g c = c.padded.ensures ∙ ap (λ t. filled g.row.N t 0) c.from-there.ensures

@@ -1,20 +1,24 @@
--- `octets::put` meets its contract: the part of the room that x fills is lent, and else the room is short.
-use mathlib.Core.Path.{sym, ap, ◌∙◌}
-use Prim.Native.Nat.{◌+◌, ◌-◌}
+use mathlib.Core.Path.{◌≡◌, sym, ◌∙◌}
+use native.Mathlib.Numerals.{add-one}
 use native.Mathlib.Omega.{arith}
-use lib.ListN.{length}
-use Rattle.octets.specs.Room.{placed}
-use Rattle.octets.proofs.RoomLaws.{placed-short}
-use Rattle.octets.proofs.PlacedLaws.{placed-part}
+use lib.ListN.{length, length-set}
+use lib.Seq.{paste-suc}
+use Rattle.octets.proofs.RoomLaws.{placed-fits, placed-short, pasted}
 use Rattle.octets.proofs.put.Goals as goal
 use Rattle.octets.proofs.put.Goals.{else-at-room-via-then-at-room+else-x-room, else-at-room-via-else-at-room}
 
-pub returns-then-x-room : goal.returns-then-x-room
-returns-then-x-room c =
+pub loop-i-preserved : goal.loop-i-preserved
+loop-i-preserved c =
+    let a = c.args in (
+      simp length-set c.loop-i.invariant.0,
+      rw (c.loop-i.invariant.1, add-one) (paste-suc a.room.now a.at a.x.now c.loop-i.i 0 (omega arith) (omega arith)),
+    )
+
+pub returns-after-loop-i : goal.returns-after-loop-i
+returns-after-loop-i c =
     let a = c.args in
-    let e = c.copy_from_slice.ensures in
-    placed-part a.room.now a.at (a.at + length a.x.now - a.at) c.copy_from_slice.new.self (omega (arith, ap length e.after)) (omega arith)
-    ∙ ap (placed a.room.now a.at) e.after
+    let e : c.loop-i.i ≡ length a.x.now = omega arith in
+    rw e at c.loop-i.invariant.1 ∙ pasted a.room.now a.at a.x.now ∙ sym (placed-fits a.room.now a.at a.x.now (omega arith))
 
 pub returns-else-at-room : goal.returns-else-at-room
 returns-else-at-room c =
