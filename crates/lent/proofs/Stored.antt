@@ -1,5 +1,5 @@
 -- What `store` hands out and stores is what the readings of gateway say of the call's result.
-use mathlib.Core.Path.{◌≡◌, ap, ◌∙◌}
+use mathlib.Core.Path.{◌≡◌, refl, ap, ◌∙◌}
 use Prim.Native.Nat.{ℕ}
 use Rattle.std.specs.Prelude.{Result, Ok, Err, MatchResult}
 use Rattle.refusal.specs.declared.Refused.{Refused}
@@ -7,6 +7,10 @@ use Rattle.refusal.specs.Numbers.{refusal_number}
 use Rattle.state.specs.declared.State.{State}
 use Rattle.state.specs.declared.Rights.{Rights}
 use Rattle.state.specs.declared.Records.{Records}
+use Rattle.state.specs.declared.transitions.Record.{Record}
+use Rattle.state.specs.Flat.{with_record}
+use Prim.Native.Nat.{◌≤◌}
+use borrow.Author.Tests.{le-ltb}
 use Rattle.gateway.specs.declared.Done.{Done}
 use Rattle.gateway.specs.Common.{Changed, changed_in}
 use Rattle.gateway.specs.Revoke.{Revoked, revoked_in}
@@ -43,3 +47,10 @@ revoked h r m e =
       ap (with_rights h) (k.1 ∙ ap (λ (x : Revoked). x.rights) e),
       k.2 ∙ ap (λ (x : Revoked). x.answer.blocks) e,
     )
+
+-- a record put past the places changes nothing: two must-fail edits lead their proof to it
+pub past : {s t : Records} (i : ℕ) (r : Record) → t ≡ with_record s i r → 32 ≤ i → t ≡ s
+unfolding with_record
+past {s} {t} i r e h = e ∙ unchanged where
+  unchanged : with_record s i r ≡ s
+  unchanged = rw (le-ltb i 32 h) refl
