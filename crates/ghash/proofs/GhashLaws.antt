@@ -10,7 +10,7 @@ use lib.Bits.{bit_xor, xor_zero_l}
 use lib.Pow.{pow-add}
 use Rattle.std.specs.Int.{w128, from_be_bytes, to_be_bytes}
 use Rattle.octets.specs.Room.{filled}
-use Rattle.ghash.proofs.Padding.{get_or-zeros}
+use Rattle.octets.proofs.RoomLaws.{filled-byte}
 use Rattle.ghash.specs.Field.{dot}
 use Rattle.ghash.specs.Bytes.{num_at, bytes_of}
 use Rattle.ghash.specs.Ghash.{blocks_in, blocks_from, padded, ghash_from, ghash, len_bits, hash_of}
@@ -24,15 +24,8 @@ num-same s t at zero h = refl
 num-same s t at (suc k) h = ap₂ (λ (x y : ℕ). x * 256 + y) (num-same s t at k (λ i l. h i (omega arith))) (h k (omega arith))
 
 -- the 0s that fill up sixteen bytes are what `num_at` reads past the end
-get_or-filled : (k : ℕ) (s : List ℕ) (i : ℕ) → i < k → get_or (filled k s 0) i 0 ≡ get_or s i 0
-unfolding filled
-get_or-filled zero s i h = absurd (omega arith)
-get_or-filled (suc k) [] i h = get_or-zeros (suc k) i
-get_or-filled (suc k) (b ∷ s) zero h = refl
-get_or-filled (suc k) (b ∷ s) (suc i) h = get_or-filled k s i (omega arith)
-
 pub num-filled : (s : List ℕ) → num_at (filled 16 s 0) 0 16 ≡ num_at s 0 16
-num-filled s = num-same (filled 16 s 0) s 0 16 (λ i l. rw (zero-add i) (get_or-filled 16 s i l))
+num-filled s = num-same (filled 16 s 0) s 0 16 (λ i l. rw (zero-add i) (filled-byte 16 s i l))
 
 -- std's numbers and bytes, the highest first
 pub big_number : (s : List ℕ) → from_be_bytes w128 s ≡ num_at s 0 16

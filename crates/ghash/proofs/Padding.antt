@@ -5,13 +5,9 @@ use mathlib.Core.List.{List, [], ◌∷◌, ◌++◌}
 use Prim.Native.Nat.{ℕ, zero, suc, ◌+◌, ◌*◌, ◌-◌, ◌<◌}
 use native.Mathlib.Omega.{arith}
 use lib.ListN.{length, get_or, replicate, length-append, length-replicate}
+use Rattle.octets.proofs.RoomLaws.{get_or-zeros}
 use Rattle.ghash.specs.Bytes.{num_at}
 use Rattle.ghash.specs.Ghash.{blocks_in, blocks_from, padded}
-
-pub get_or-zeros : (m i : ℕ) → ◌≡◌ {A = ℕ} (get_or (replicate m 0) i 0) 0
-get_or-zeros zero i = refl
-get_or-zeros (suc m) zero = refl
-get_or-zeros (suc m) (suc i) = get_or-zeros m i
 
 get_or-pad : (s : List ℕ) (m i : ℕ) → get_or (s ++ replicate m 0) i 0 ≡ get_or s i 0
 get_or-pad [] m i = get_or-zeros m i

@@ -8,10 +8,7 @@ use native.Mathlib.Nat.{zero-add, suc-add}
 use native.Mathlib.Omega.{arith}
 use borrow.Author.Tests.{le-leb, lt-leb, leb-true, leb-false}
 use lib.Dec.{leb}
-use Rattle.std.proofs.lemmas.List.{get_or_past, get_or-drop, get_or-take}
 use lib.ListN.{length, get_or, take, drop, replicate, length-take, length-drop, length-replicate, drop_of_length-le}
-use Rattle.std.proofs.Math.ListN.{get_or-append}
-use Rattle.std.proofs.Math.Seq.{get_or-append_right}
 use lib.Seq.{take_all, take-length, take-nil, take-take, drop-drop, drop_at, take-append-le, length-take-le, paste, length-paste, take-paste, drop-paste}
 use Rattle.octets.specs.Checks.{pick}
 use Rattle.octets.specs.Room.{part, over, placed, at_start, filled}
@@ -92,10 +89,18 @@ module _ (d : List ℕ) (at : ℕ) (x : List ℕ) where
 pub placed-start : (d x : List ℕ) → length x ≤ length d → placed d 0 x ≡ at_start x d
 placed-start d x h = rw (placed-fits d 0 x (omega arith), zero-add)
 
-get_or-zeros : (m i : ℕ) → ◌≡◌ {A = ℕ} (get_or (replicate m 0) i 0) 0
+pub get_or-zeros : (m i : ℕ) → ◌≡◌ {A = ℕ} (get_or (replicate m 0) i 0) 0
 get_or-zeros zero i = refl
 get_or-zeros (suc m) zero = refl
 get_or-zeros (suc m) (suc i) = get_or-zeros m i
+
+-- byte i of a string that zeros fill up, there or not
+pub filled-byte : (k : ℕ) (s : List ℕ) (i : ℕ) → i < k → get_or (filled k s 0) i 0 ≡ get_or s i 0
+unfolding filled
+filled-byte zero s i h = absurd (omega arith)
+filled-byte (suc k) [] i h = get_or-zeros (suc k) i
+filled-byte (suc k) (b ∷ s) zero h = refl
+filled-byte (suc k) (b ∷ s) (suc i) h = filled-byte k s i (omega arith)
 
 -- the bytes that a room of as many zeros holds once the part was placed
 module _ (k : ℕ) (s : List ℕ) (at : ℕ) where
@@ -118,18 +123,6 @@ module _ (k : ℕ) (s : List ℕ) (at : ℕ) where
   filled-whole h =
       ap (λ (l : List ℕ). part s at k ++ l) (drop_of_length-le zeros {i = length (part s at k)} (omega (arith, zeros-long)))
       ∙ append-nil (part s at k)
-
-  -- byte i of them, there or not
-  pub filled-byte : (i : ℕ) → i < k → get_or (filled k s at) i 0 ≡ get_or (drop at s) i 0
-  unfolding filled
-  filled-byte i h = either (leb (length (part s at k)) i) refl where
-    either : (t : Bool) → leb (length (part s at k)) i ≡ t → get_or (filled k s at) i 0 ≡ get_or (drop at s) i 0
-    either true e =
-        let b : length (part s at k) ≤ i = leb-true (length (part s at k)) i e in
-        rw (get_or-append_right (part s at k) (drop (length (part s at k)) zeros) i 0 b, get_or-drop (length (part s at k)) zeros, get_or-zeros) (sym (get_or_past (drop at s) i 0 (omega (arith, b, h, length-take k (drop at s)))))
-    either false e =
-        let b : i < length (part s at k) = leb-false (length (part s at k)) i e in
-        get_or-append (part s at k) (drop (length (part s at k)) zeros) 0 i b ∙ get_or-take k (drop at s) i 0 h
 
   pub filled-there : at + k ≤ length s → filled k s at ≡ part s at k
   filled-there h = filled-whole (omega (arith, length_part s at k h))

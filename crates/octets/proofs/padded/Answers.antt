@@ -20,7 +20,7 @@ loop-i-preserved g c =
     let zeros : List ℕ = replicate n 0 in
     let bytes = filled n a.s.now 0 in
     let byte : c.at.result ≡ get_or bytes i 0 =
-    c.at.ensures ∙ number_one a.s.now i ∙ sym (filled-byte n a.s.now 0 i (omega arith)) in
+    c.at.ensures ∙ number_one a.s.now i ∙ sym (filled-byte n a.s.now i (omega arith)) in
     let here : i < length zeros = omega (arith, length-replicate {A = ℕ} n 0) in
     let there : i < length bytes = omega (arith, length-filled n a.s.now 0) in
     let next = paste-suc zeros 0 bytes i 0 (rw zero-add here) there in (

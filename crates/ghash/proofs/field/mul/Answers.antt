@@ -3,7 +3,7 @@ use Rattle.std.proofs.Common.{◌≡◌, ◌<◌, ◌≢◌, length, arith, get_
 use lib.Bits.{bit_xor}
 use lib.ListN.{length-replicate}
 use Rattle.ghash.specs.Field.{v_i, z_i}
-use Rattle.ghash.proofs.Padding.{get_or-zeros}
+use Rattle.octets.proofs.RoomLaws.{get_or-zeros}
 use Rattle.ghash.proofs.TurnLaws.{taken, turn-double, turn-power, turn-sum, taken-last, taken-none, taken-dot}
 use Rattle.ghash.proofs.field.mul.Goals as goal
 
